@@ -1,0 +1,12 @@
+use Rattle.std.proofs.Common.{ℕ, zero, suc, ◌<◌, [], ◌∷◌, get_or, Contains, arith}
+use Rattle.qm_denot.specs.declared.Wire.{Wire}
+use Rattle.qm_denot.proofs.tests.components.Goals as goal
+
+each_of_two : (P : Wire → Type 0) (v w d : Wire) (k : ℕ) → P v → P w → k < 2 → P (get_or (v ∷ w ∷ []) k d)
+each_of_two P v w d zero at_v at_w h = at_v
+each_of_two P v w d (suc zero) at_v at_w h = at_w
+each_of_two P v w d (suc (suc k)) at_v at_w h = absurd (omega arith)
+
+pub value-z-requires-in-len2-clause-live : goal.value-z-requires-in-len2-clause-live
+value-z-requires-in-len2-clause-live g c = λ k d h.
+    each_of_two (Contains (g.A.Amps.store c.args.amps.now).live) _ _ d k (c.is_live-then-ne.ensures.0 c.if-is_live-2.true) (c.is_live-then-is_live-2.ensures.0 c.if-is_live-3.true) h

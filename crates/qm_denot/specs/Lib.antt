@@ -1,0 +1,12 @@
+pub mod Wires
+pub mod WireLists
+pub mod Circuits
+pub mod Stores
+pub mod Weights
+pub mod WorkedCircuits
+pub mod CircuitFacts
+pub mod Protocols
+pub mod Places
+pub mod Collectives
+pub mod Plain
+pub mod Sound

@@ -1,0 +1,44 @@
+-- Places in an index: place p of an index is its bit of value 2^p
+use Rattle.std.specs.Prelude.{◌≡◌, ◌≢◌, ℕ, ◌+◌, ◌*◌, ◌/◌, ◌%◌, nat_eq, Bool, true, false, List, [], ◌∷◌}
+use Rattle.std.proofs.Common.{zero, suc}
+use Rattle.qm_denot.specs.declared.Wire.{Wire}
+use Rattle.qm_denot.specs.Wires.{Wires, has, put, is_empty}
+
+abbrev pub bit_of : Bool → ℕ
+bit_of true = 1
+bit_of false = 0
+
+-- the bit of k at place p
+abbrev pub has_place : ℕ → ℕ → Bool
+has_place zero k = nat_eq (k % 2) 1
+has_place (suc p) k = has_place p (k / 2)
+
+-- k with b at place p
+abbrev pub set_place : ℕ → Bool → ℕ → ℕ
+set_place zero b k = bit_of b + 2 * (k / 2)
+set_place (suc p) b k = k % 2 + 2 * set_place p b (k / 2)
+
+-- k with b put in at place p, its higher places moved up
+abbrev pub insert_place : ℕ → Bool → ℕ → ℕ
+insert_place zero b k = bit_of b + 2 * k
+insert_place (suc p) b k = k % 2 + 2 * insert_place p b (k / 2)
+
+-- the index of x: the wire at place p of the list gives the bit at place p
+abbrev pub index_of : List Wire → Wires → ℕ
+index_of [] x = 0
+index_of (w ∷ ws) x = bit_of (has x w) + 2 * index_of ws x
+
+-- x without the wires of the list
+abbrev pub without : Wires → List Wire → Wires
+without x [] = x
+without x (w ∷ ws) = without (put x w false) ws
+
+-- whether each wire of x is in the list
+abbrev pub is_within : Wires → List Wire → Bool
+is_within x ws = is_empty (without x ws)
+
+-- w stands at place p of the list, and nowhere before
+abbrev pub IsFirstAt : List Wire → ℕ → Wire → Type 0
+IsFirstAt [] p w = ⊥
+IsFirstAt (v ∷ ws) zero w = v ≡ w
+IsFirstAt (v ∷ ws) (suc p) w = (v ≢ w) × IsFirstAt ws p w

@@ -1,0 +1,28 @@
+-- The lanes of an instruction's messages
+use Rattle.std.specs.Prelude.{ℕ, Option, Some, None}
+use Rattle.qm_instr.specs.declared.Instr.{Instr}
+use Rattle.qm_instr.specs.declared.Instr.TheVariants as instr
+use Rattle.qm_instr.specs.declared.Kind.{Kind}
+use Rattle.qm_instr.specs.declared.Kind.TheVariants as kind
+use Rattle.qm_instr.specs.declared.Lane.{Lane}
+
+abbrev pub lane : ℕ → ℕ → Kind → ℕ → Lane
+lane from to k tag = record { from = from; to = to; kind = k; tag = tag }
+
+-- the lane on which an instruction of a rank is a send
+abbrev pub lane_sent : ℕ → Instr → Option Lane
+lane_sent rank (instr.SendBit b to tag) = Some (lane rank to kind.Bit tag)
+lane_sent rank (instr.CopyTo q to tag) = Some (lane rank to kind.Copy tag)
+lane_sent rank (instr.UndoTo q to tag) = Some (lane rank to kind.Undo tag)
+lane_sent rank (instr.MoveTo q to tag) = Some (lane rank to kind.Move tag)
+lane_sent rank (instr.ReachTo q to tag) = Some (lane rank to kind.Reach tag)
+lane_sent rank _ = None
+
+-- the lane on which an instruction of a rank is a receive
+abbrev pub lane_received : ℕ → Instr → Option Lane
+lane_received rank (instr.RecvBit b from tag) = Some (lane from rank kind.Bit tag)
+lane_received rank (instr.CopyFrom q from tag) = Some (lane from rank kind.Copy tag)
+lane_received rank (instr.UndoFrom q from tag) = Some (lane from rank kind.Undo tag)
+lane_received rank (instr.MoveFrom q from tag) = Some (lane from rank kind.Move tag)
+lane_received rank (instr.ReachFrom t from tag) = Some (lane from rank kind.Reach tag)
+lane_received rank _ = None

@@ -1,0 +1,4 @@
+pub mod Counts
+pub mod Lanes
+pub mod Operands
+pub mod Programs

@@ -1,0 +1,5 @@
+pub mod Ends
+pub mod Intake
+pub mod MemSink
+pub mod StdEnds
+pub mod SureSource

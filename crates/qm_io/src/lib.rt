@@ -1,0 +1,21 @@
+//! Ends: where bytes come from and go to, each with a count of its faults.
+#![tactic(auto)]
+
+mod ends;
+mod intake;
+mod mem_sink;
+mod put;
+mod std_sink;
+mod std_source;
+mod sure_source;
+
+pub use ends::{Failed, Sink, Source};
+pub use intake::{TEXT_LIMIT, TextError, read_all};
+pub use mem_sink::MemSink;
+pub use put::put_bytes;
+pub use std_sink::StdSink;
+pub use std_source::StdSource;
+pub use sure_source::SureSource;
+
+#[cfg(test)]
+mod tests;

@@ -1,0 +1,90 @@
+use crate::{
+    MemSink, Sink, StdSink, StdSource, SureSource, TEXT_LIMIT, TextError, put_bytes, read_all,
+};
+use std::io;
+use std::io::{Cursor, Error, ErrorKind, Read, Write};
+use std::test::Fail;
+
+#[derive(Drop)]
+struct Broken;
+
+impl Read for Broken {
+    fn read(&mut self, _buf: &mut [u8]) -> io::Result<usize> {
+        Err(Error::from(ErrorKind::BrokenPipe))
+    }
+}
+
+impl Write for Broken {
+    fn write(&mut self, buf: &[u8]) -> io::Result<usize> {
+        Ok(buf.len())
+    }
+
+    fn flush(&mut self) -> io::Result<()> {
+        Err(Error::from(ErrorKind::BrokenPipe))
+    }
+}
+
+#[test]
+fn a_text_goes_to_memory_until_a_call_fails(rt: HostRuntime) -> Result<(), Fail> {
+    // the room, the call that fails, what is taken, whether the text is put and flushed
+    let cases = [
+        (10, 0, "0123456789", true, true),
+        (10, 2, "0123", false, true),
+        (6, 0, "012345", false, true),
+        (10, 4, "0123456789", true, false),
+    ];
+    for (room, failing, taken, is_put, is_flushed) in cases {
+        let fails = [failing].to_vec(rt.alloc())?;
+        let mut sink = MemSink::start(rt.alloc(), room, fails, 4)?;
+        assert_eq!(rt;
+            put_bytes(&mut sink, b"0123456789").is_ok(),
+            is_put,
+            "at room {room}"
+        );
+        assert_eq!(rt; sink.flush().is_ok(), is_flushed, "at room {room}");
+        assert_eq!(rt; sink.taken(), taken.as_bytes(), "at room {room}");
+    }
+    Ok(())
+}
+
+#[test]
+fn a_text_is_read_up_to_the_limit(rt: HostRuntime) -> Result<(), Fail> {
+    for (len, is_read) in [
+        (0, true),
+        (10, true),
+        (TEXT_LIMIT, true),
+        (TEXT_LIMIT + 1, false),
+    ] {
+        let bytes = vec![in rt.alloc(); b'.'; len]?;
+        let mut source = SureSource::start(bytes, 1_000);
+        match read_all(rt.alloc(), &mut source) {
+            Ok(text) => assert!(rt; is_read && text.len() == len, "at {len}"),
+            Err(error) => assert!(rt; !is_read && error == TextError::TooLong, "at {len}"),
+        }
+    }
+    Ok(())
+}
+
+#[test]
+fn std_readers_are_sources(rt: HostRuntime) -> Result<(), Fail> {
+    let mut whole = StdSource::start(b"a text".as_slice());
+    assert_eq!(rt;
+        read_all(rt.alloc(), &mut whole)?.as_slice(),
+        b"a text".as_slice()
+    );
+    let mut broken = StdSource::start(b"a text".as_slice().chain(Broken));
+    assert!(rt; matches!(read_all(rt.alloc(), &mut broken), Err(TextError::ReadFault)));
+    Ok(())
+}
+
+#[test]
+fn std_writers_are_sinks(rt: HostRuntime) {
+    let mut room = [0; 4];
+    {
+        let mut small = StdSink::start(Cursor::new(&mut room[..]));
+        assert!(rt; put_bytes(&mut small, b"abcdef").is_err());
+        assert!(rt; small.flush().is_ok());
+    }
+    assert_eq!(rt; room, *b"abcd");
+    assert!(rt; StdSink::start(Broken).flush().is_err());
+}

@@ -1,0 +1,5 @@
+use Rattle.qm_proto.proofs.WorkedRuns as runs
+use Rattle.qm_proto.proofs.worked.worked_run.Goals as goal
+
+pub returns : goal.returns
+returns c = runs.worked_run

@@ -1,0 +1,5 @@
+pub mod Laws
+pub mod WorkedMessages
+pub mod Events
+pub mod Model
+pub mod WorkedRun

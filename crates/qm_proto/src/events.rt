@@ -1,0 +1,150 @@
+ghost use Rattle.std.specs.Prelude.{◌≡◌, ◌≤◌, ◌↔◌, IsNone, slice_get};
+ghost use Rattle.qm_instr.specs.Counts.{events_of};
+ghost use Rattle.qm_proto.specs.Events.{events_in};
+
+use crate::Event;
+use qm_instr::Instr;
+
+/// A move at its sender.
+const MOVE_TO: [Event; 5] = [
+    Event::Pair,
+    Event::Cross,
+    Event::Had,
+    Event::Near,
+    Event::Post,
+];
+
+/// A reach at the rank of the control.
+const REACH_TO: [Event; 5] = [
+    Event::Pair,
+    Event::Cross,
+    Event::Post,
+    Event::Deliver,
+    Event::FixZ,
+];
+
+/// A reach at the rank of the target.
+const REACH_FROM: [Event; 5] = [
+    Event::Deliver,
+    Event::FixX,
+    Event::Cross,
+    Event::Had,
+    Event::Post,
+];
+
+/// The event of an instruction at a stage, from 0. `None` exactly where the instruction has no more than `stage` events.
+pub fn next_event(i: Instr, stage: u32) -> Option<Event>
+    ensures value { result ≡ slice_get (events_in i) stage }
+    ensures none { IsNone result ↔ (events_of i ≤ stage) }
+{
+    match i {
+        Instr::Alloc { .. } => at(&[Event::Alloc], stage),
+        Instr::Free { .. } => at(&[Event::Free], stage),
+        Instr::Do { .. } => at(&[Event::Gate], stage),
+        Instr::Measure { .. } => at(&[Event::Measure], stage),
+        Instr::Set { .. } => at(&[Event::Set], stage),
+        Instr::Xor { .. } => at(&[Event::Xor], stage),
+        Instr::When { .. } => at(&[Event::When], stage),
+        Instr::SendBit { .. } => at(&[Event::SendBit], stage),
+        Instr::RecvBit { .. } => at(&[Event::RecvBit], stage),
+        Instr::CopyTo { .. } => at(&[Event::Pair, Event::Cross, Event::Post], stage),
+        Instr::CopyFrom { .. } => at(&[Event::Deliver, Event::FixX], stage),
+        Instr::UndoTo { .. } => at(&[Event::Test, Event::Post], stage),
+        Instr::UndoFrom { .. } => at(&[Event::Deliver, Event::FixZ], stage),
+        Instr::MoveTo { .. } => at(&MOVE_TO, stage),
+        Instr::MoveFrom { .. } => at(&[Event::Deliver, Event::FixX, Event::FixZ], stage),
+        Instr::ReachTo { .. } => at(&REACH_TO, stage),
+        Instr::ReachFrom { .. } => at(&REACH_FROM, stage),
+    }
+}
+
+/// The event at a stage. `None` where the list is no longer than that.
+fn at(events: &[Event], stage: u32) -> Option<Event>
+    ensures { result ≡ slice_get events.now stage }
+{
+    events.get(stage as usize).copied()
+}
+
+#[cfg(test)]
+mod tests {
+    use super::next_event;
+    use crate::Event;
+    use qm_instr::{Gate, Instr, OneGate};
+
+    const GATE: Gate = Gate::One {
+        g: OneGate::H,
+        q: 0,
+    };
+
+    #[test]
+    fn tells_the_events_of_each_instruction(rt: HostRuntime) {
+        let (q, b, to, from, tag) = (0, 1, 2, 3, 4);
+        let table: [(Instr, &[Event]); 17] = [
+            (Instr::Alloc { q }, &[Event::Alloc]),
+            (Instr::Free { q }, &[Event::Free]),
+            (Instr::Do { g: GATE }, &[Event::Gate]),
+            (Instr::Measure { q, b }, &[Event::Measure]),
+            (Instr::Set { b, v: true }, &[Event::Set]),
+            (Instr::Xor { b, c: 0 }, &[Event::Xor]),
+            (Instr::When { b, g: GATE }, &[Event::When]),
+            (Instr::SendBit { b, to, tag }, &[Event::SendBit]),
+            (Instr::RecvBit { b, from, tag }, &[Event::RecvBit]),
+            (
+                Instr::CopyTo { q, to, tag },
+                &[Event::Pair, Event::Cross, Event::Post],
+            ),
+            (
+                Instr::CopyFrom { q, from, tag },
+                &[Event::Deliver, Event::FixX],
+            ),
+            (Instr::UndoTo { q, to, tag }, &[Event::Test, Event::Post]),
+            (
+                Instr::UndoFrom { q, from, tag },
+                &[Event::Deliver, Event::FixZ],
+            ),
+            (
+                Instr::MoveTo { q, to, tag },
+                &[
+                    Event::Pair,
+                    Event::Cross,
+                    Event::Had,
+                    Event::Near,
+                    Event::Post,
+                ],
+            ),
+            (
+                Instr::MoveFrom { q, from, tag },
+                &[Event::Deliver, Event::FixX, Event::FixZ],
+            ),
+            (
+                Instr::ReachTo { q, to, tag },
+                &[
+                    Event::Pair,
+                    Event::Cross,
+                    Event::Post,
+                    Event::Deliver,
+                    Event::FixZ,
+                ],
+            ),
+            (
+                Instr::ReachFrom { t: q, from, tag },
+                &[
+                    Event::Deliver,
+                    Event::FixX,
+                    Event::Cross,
+                    Event::Had,
+                    Event::Post,
+                ],
+            ),
+        ];
+        for (i, events) in table {
+            for stage in 0..7 {
+                assert_eq!(rt;
+                    next_event(i, stage),
+                    events.get(stage as usize).copied(),
+                    "{i:?} at {stage}"
+                );
+            }
+        }
+    }
+}

@@ -1,0 +1,105 @@
+-- What a whole call says: the cause of its status, and the status and the bytes that were due
+use Rattle.std.proofs.Common.{◌≡◌, ◌≢◌, ℕ, ◌≤◌, ◌⊎◌, inl, inr, false, List, [], ◌∷◌, ◌++◌, length, get_or, map, Option, Some, None, Result, Ok, Err, IfOk, refl, sym, ap, subst, ◌∙◌, arith, codes, length-append}
+use Rattle.std.proofs.lemmas.List.{append-nil}
+use Rattle.std.specs.Str.{bytes_eq}
+use Rattle.std.specs.String.{string_bytes}
+use Rattle.std.specs.declared.alloc.AllocError.{AllocError}
+use Rattle.std.specs.declared.alloc.Global.{Global}
+use Rattle.std.specs.declared.string.String.{String}
+use Rattle.qm_denot.specs.Stores.{Store}
+use Rattle.qm_io.specs.Ends.{SinkView, SourceView, Rose, Took, IsSpent, led_by}
+use Rattle.qm_io.specs.Intake.{GaveAll, GaveMore, FailedOnce}
+use Rattle.qm_tool.specs.declared.answer.Answer.{Answer}
+use Rattle.qm_tool.specs.declared.answer.Answer.TheVariants as answer
+use Rattle.qm_tool.specs.declared.status.Status.{Status}
+use Rattle.qm_tool.specs.declared.status.Status.TheVariants as status
+use Rattle.qm_tool.specs.Due.{is_plain, EndsWith, StopsWith, RefusedWith, DueOf, Due, NoCommand, TooMuch, Whole}
+use Rattle.qm_tool.specs.Calls.{Comes, Unasked, Failed, More, Text, Ends, Whole as Written, Broken, Ran, Starved, Done, Wrote}
+use Rattle.qm_tool.specs.Answers.{status_of, text_of, AnswersSource, Concludes}
+use Rattle.qm_tool.proofs.AnswerLaws.{Due-one}
+
+-- ---- the words
+-- the one word of a list of one
+pub is_plain-one : (ws : List (String Global)) (w : String Global) → length ws ≡ 1 → w ≡ get_or ws 0 w → is_plain (map string_bytes ws) ≡ bytes_eq (string_bytes w) (codes "plain")
+is_plain-one [] w l e = absurd (omega arith)
+is_plain-one (v ∷ []) w l e = ap (λ x. bytes_eq (string_bytes x) (codes "plain")) (sym e)
+is_plain-one (v ∷ u ∷ us) w l e = absurd (omega arith)
+
+-- ---- a source that tells its bytes
+-- what it gave, to its end, is all that it had
+all_of_it : (text got : List ℕ) (rest : Option (List ℕ)) → Some text ≡ led_by got rest → IsSpent rest → text ≡ got
+all_of_it text got None e s = cc
+all_of_it text got (Some r) e s = let k : text ≡ got ++ r = cc in k ∙ ap (λ x. got ++ x) s ∙ append-nil got
+
+-- it had no less than it gave
+longer_than : (text got : List ℕ) (rest : Option (List ℕ)) → Some text ≡ led_by got rest → length got ≤ length text
+longer_than text got None e = cc
+longer_than text got (Some r) e = let k : text ≡ got ++ r = cc in omega (arith, ap length k, length-append got r)
+
+module _ (words : List (List ℕ)) (from from' : SourceView) where
+  -- what is due for what came is due for all that the source had
+  Comes-due : (s : Status) (bytes text : List ℕ) → from.left ≡ Some text → (Rose from.faults from'.faults → ⊥) → Comes words from from' s bytes → Due words text s bytes
+  Comes-due s bytes text told sure (Unasked e same) = NoCommand e
+  Comes-due s bytes text told sure (Failed e f) = absurd (sure f.rose)
+  Comes-due s bytes text told sure (More e m) = TooMuch e (omega (arith, m.long, longer_than text m.text from'.left (sym told ∙ m.gave.left)))
+  Comes-due s bytes text told sure (Text t q b e g d) =
+      let all : text ≡ t = all_of_it text t from'.left (sym told ∙ g.gave.left) g.spent in
+      Whole q b e (omega (arith, ap length all, g.short)) (subst (λ (x : List ℕ). DueOf x q b) (sym all) d)
+
+  module _ (to to' : SinkView) where
+    -- what each status says of the ends
+    abbrev pub Cause : Status → Type 0
+    Cause status.Ok = Wrote EndsWith from from' to to'
+    Cause status.Usage = is_plain words ≡ false
+    Cause status.ReadFault = FailedOnce from from'
+    Cause status.TooLong = GaveMore from from'
+    Cause status.Refused = Wrote RefusedWith from from' to to'
+    Cause status.Stopped = Wrote StopsWith from from' to to'
+    Cause status.WriteFault = Rose to.faults to'.faults
+    Cause status.OutOfMemory = to' ≡ to
+
+    DueOf-cause : (s : Status) (text bytes : List ℕ) → GaveAll from from' text → DueOf text s bytes → Took to to' bytes → Cause s
+    DueOf-cause status.Ok text bytes g d t = record { text = text; bytes = bytes; gave = g; says = d; took = t }
+    DueOf-cause status.Refused text bytes g d t = record { text = text; bytes = bytes; gave = g; says = d; took = t }
+    DueOf-cause status.Stopped text bytes g d t = record { text = text; bytes = bytes; gave = g; says = d; took = t }
+    DueOf-cause s text bytes g d t = absurd d
+
+    Comes-cause : (s : Status) (bytes : List ℕ) → Comes words from from' s bytes → Took to to' bytes → Cause s
+    Comes-cause s bytes (Unasked e same) t = e
+    Comes-cause s bytes (Failed e f) t = f
+    Comes-cause s bytes (More e m) t = m
+    Comes-cause s bytes (Text text q b e g d) t = DueOf-cause q text b g d t
+
+    Ends-cause : (due s : Status) (bytes : List ℕ) → Comes words from from' due bytes → Ends due bytes to to' s → Cause s
+    Ends-cause due s bytes c (Written t) = Comes-cause due bytes c t
+    Ends-cause due s bytes c (Broken b) = b.rose
+
+    Ran-its_cause : (s : Status) → Ran words from from' to to' s → Cause s
+    Ran-its_cause s (Starved e) = e
+    Ran-its_cause s (Done q a) = Ends-cause a.due q a.bytes a.comes a.ends
+
+    pub Ran-cause : (s q : Status) → Ran words from from' to to' s → s ≡ q → Cause q
+    Ran-cause s q r e = subst Cause e (Ran-its_cause s r)
+
+    Ends-exact : (due s q : Status) (bytes b text : List ℕ) → Due words text due bytes → Due words text q b → (Rose to.faults to'.faults → ⊥) → Ends due bytes to to' s → (s ≡ q) × Took to to' b
+    Ends-exact due s q bytes b text d e sure (Written t) = let one = Due-one words text due q bytes b d e in (one.0, subst (Took to to') one.1 t)
+    Ends-exact due s q bytes b text d e sure (Broken k) = absurd (sure k.rose)
+
+    pub Ran-exact : (r : Status) → Ran words from from' to to' r → (text : List ℕ) (s : Status) (bytes : List ℕ) → from.left ≡ Some text → (Rose from.faults from'.faults → ⊥) → (Rose to.faults to'.faults → ⊥)
+        → r ≢ status.OutOfMemory → Due words text s bytes → (r ≡ s) × Took to to' bytes
+    Ran-exact r (Starved e) text s bytes told read wrote memory due = absurd (memory refl)
+    Ran-exact r (Done q a) text s bytes told read wrote memory due = Ends-exact a.due q s a.bytes bytes text (Comes-due a.due a.bytes text told read a.comes) due wrote a.ends
+
+    -- ---- by the answer
+    pub Concludes-ran : {A : Type 0} (store : A → Store) (r : Result (Answer A) AllocError) (s : Status) → IfOk r (AnswersSource store words from from') → Concludes store to to' r s → Ran words from from' to to' s
+    Concludes-ran store (Ok a) s came ends = Done s (record { due = status_of a; bytes = text_of store a; comes = came.comes; ends = ends })
+    Concludes-ran store (Err e) s came ends = subst (Ran words from from' to to') (sym ends.0) (Starved ends.1)
+
+    -- the answer to words that are no command is written, or a write fails
+    pub Concludes-usage : {A : Type 0} (store : A → Store) (r : Result (Answer A) AllocError) (s : Status) → r ≡ Ok answer.Usage → IfOk r (AnswersSource store words from from') → Concludes store to to' r s
+        → (s ≡ status.Usage) ⊎ (s ≡ status.WriteFault)
+    Concludes-usage store r s e came c = by_end s (subst (λ x. Concludes store to to' x s) e c)
+      where
+        by_end : (s : Status) → Ends status.Usage (codes "usage\n") to to' s → (s ≡ status.Usage) ⊎ (s ≡ status.WriteFault)
+        by_end s (Written t) = inl refl
+        by_end s (Broken b) = inr refl

@@ -1,0 +1,22 @@
+//! The top call: the words of a command and a source in, a status and the bytes of a sink out.
+#![tactic(auto)]
+
+mod answer;
+mod full_slot;
+pub mod laws;
+mod play;
+mod program;
+mod reader;
+mod refusal;
+mod state_text;
+mod status;
+mod top;
+
+pub use full_slot::FullSlot;
+pub use program::{Instruction, Program};
+pub use refusal::Refusal;
+pub use status::Status;
+pub use top::tool_plain;
+
+#[cfg(test)]
+mod tests;

@@ -1,0 +1,4 @@
+pub mod Component
+pub mod Numbers
+pub mod Range
+pub mod Zw
