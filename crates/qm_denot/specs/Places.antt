@@ -4,6 +4,7 @@ use Rattle.std.proofs.Common.{zero, suc}
 use Rattle.qm_denot.specs.declared.Wire.{Wire}
 use Rattle.qm_denot.specs.Wires.{Wires, has, put, is_empty}
 
+-- 1 for true, 0 for false
 abbrev pub bit_of : Bool → ℕ
 bit_of true = 1
 bit_of false = 0

@@ -22,6 +22,7 @@ number_at (z ∷ zs) (suc k) = number_at zs k
 abbrev pub plain_value : List Wire → List Zw → Amplitudes
 plain_value live zs x = if is_within x live then number_at zs (index_of live x) else zero_number
 
+-- the store with this capacity, these live wires, this exponent and these numbers
 abbrev pub plain_store : ℕ → List Wire → ℕ → List Zw → Store
 plain_store n live k zs = record { capacity = n; live = live; exponent = k; value = plain_value live zs }
 

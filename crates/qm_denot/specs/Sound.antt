@@ -23,6 +23,7 @@ pub record Keeps (live : List Wire) (zs : List Zw) (k : ℕ) : Type 0 where
   pub blank : (w : Wire) → ¬ (Contains live w) → IsBlankIn (plain_value live zs) w
   pub reduced : k ≢ 0 → ¬ (DivisibleOver live (plain_value live zs))
 
+-- each of these facts has at most one proof, as a fact that a struct keeps must
 Lacks-prop : (ws : List Wire) (w : Wire) → IsProp (Lacks ws w)
 Lacks-prop [] w = hlevel
 Lacks-prop (v ∷ ws) w = hlevel (Lacks-prop ws w)
@@ -42,6 +43,7 @@ all_or_some (w ∷ ws) f = elim (all_or_some ws (λ x. f (put x w false))) [
   | inl low ↦ elim (all_or_some ws (λ x. f (put x w true))) [ inr some ↦ inr (put some.0 w true, some.1) | inl high ↦ inl (low, high) ]
 ]
 
+-- so a store that keeps this is reduced
 pub reduced_where_kept : (live : List Wire) (zs : List Zw) (k : ℕ) → Keeps live zs k → IsReduced (plain_value live zs) k
 reduced_where_kept live zs zero kept = inl refl
 reduced_where_kept live zs (suc k) kept = elim (all_or_some live (plain_value live zs)) [
@@ -49,5 +51,6 @@ reduced_where_kept live zs (suc k) kept = elim (all_or_some live (plain_value li
   | inr some ↦ inr some
 ]
 
+-- and sound
 pub plain_sound : (n : ℕ) (live : List Wire) (k : ℕ) (zs : List Zw) → length live ≤ n → Keeps live zs k → IsSound (plain_store n live k zs)
 plain_sound n live k zs few kept = record { distinct = kept.distinct; few = few; blank = kept.blank; reduced = reduced_where_kept live zs k kept }

@@ -47,7 +47,7 @@ impl PlainAmps {
 
     /// A store with room for so many live wires, that stands for the empty circuit.
     ///
-    /// All memory is taken here.
+    /// All memory is taken here, and `AllocError` comes only for want of it.
     pub fn start(alloc: Global, capacity: u32) -> Result<PlainAmps, AllocError>
         requires { capacity ≤ 22 }
         ensures stands { IfOk result (λ s. StandsFor (⟦<PlainAmps as Amps>⟧.store s) []) }

@@ -1,5 +1,7 @@
 -- The lanes of an instruction's messages
-use Rattle.std.specs.Prelude.{ℕ, Option, Some, None}
+use Rattle.std.specs.Prelude.{ℕ, Bool, Option, Some, None}
+use Rattle.std.specs.declared.cmp.Ordering.{Ordering}
+use Rattle.std.specs.Ordering.{nat_cmp, ordering_then, is_eq}
 use Rattle.qm_instr.specs.declared.Instr.{Instr}
 use Rattle.qm_instr.specs.declared.Instr.TheVariants as instr
 use Rattle.qm_instr.specs.declared.Kind.{Kind}
@@ -8,6 +10,28 @@ use Rattle.qm_instr.specs.declared.Lane.{Lane}
 
 abbrev pub lane : ℕ → ℕ → Kind → ℕ → Lane
 lane from to k tag = record { from = from; to = to; kind = k; tag = tag }
+
+-- the place of a kind in the order of kinds
+abbrev pub kind_place : Kind → ℕ
+kind_place kind.Bit = 0
+kind_place kind.Copy = 1
+kind_place kind.Move = 2
+kind_place kind.Undo = 3
+kind_place kind.Reach = 4
+kind_place kind.Back = 5
+
+abbrev pub kind_order : Kind → Kind → Ordering
+kind_order a b = nat_cmp (kind_place a) (kind_place b)
+
+-- lanes are ordered by their fields
+abbrev pub lane_order : Lane → Lane → Ordering
+lane_order a b =
+    let last = ordering_then (kind_order a.kind b.kind) (nat_cmp a.tag b.tag) in
+    ordering_then (nat_cmp a.from b.from) (ordering_then (nat_cmp a.to b.to) last)
+
+-- whether two lanes are equal in each field
+abbrev pub is_same_lane : Lane → Lane → Bool
+is_same_lane a b = is_eq (lane_order a b)
 
 -- the lane on which an instruction of a rank is a send
 abbrev pub lane_sent : ℕ → Instr → Option Lane

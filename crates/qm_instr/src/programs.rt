@@ -137,25 +137,28 @@ impl Input {
     /// How many instructions a rank has, at most 100,000.
     pub fn count(&self, rank: u16) -> u32
         requires { rank < length self.now.ranks }
-        ensures { result ≡ length (rank_of self.now rank).instructions }
+        ensures value { result ≡ length (rank_of self.now rank).instructions }
+        ensures few { result ≤ 100000 }
     {
         let part = &self.ranks[usize::from(rank)];
         part.instructions.len() as u32
     }
 
-    /// The outcomes of a rank's own tape.
+    /// The outcomes of a rank's own tape, at most 1,048,576.
     pub fn own(&self, rank: u16) -> &[bool]
         requires { rank < length self.now.ranks }
-        ensures { result.now ≡ (rank_of self.now rank).own }
+        ensures value { result.now ≡ (rank_of self.now rank).own }
+        ensures few { length result.now ≤ 1048576 }
     {
         let part = &self.ranks[usize::from(rank)];
         part.own.as_slice()
     }
 
-    /// The outcomes of a rank's protocol tape.
+    /// The outcomes of a rank's protocol tape, at most 1,048,576.
     pub fn protocol(&self, rank: u16) -> &[bool]
         requires { rank < length self.now.ranks }
-        ensures { result.now ≡ (rank_of self.now rank).protocol }
+        ensures value { result.now ≡ (rank_of self.now rank).protocol }
+        ensures few { length result.now ≤ 1048576 }
     {
         let part = &self.ranks[usize::from(rank)];
         part.protocol.as_slice()

@@ -1,5 +1,5 @@
 -- The slots of a run: which are full, with which wires, and how many
-use Rattle.std.proofs.Common.{◌≡◌, ◌≢◌, ℕ, zero, suc, ◌+◌, ◌<◌, ◌≤◌, ◌⊎◌, inl, inr, Bool, true, false, not, cond, ◌&&◌, ◌||◌, ◌==◌, List, [], ◌∷◌, ◌++◌, length, Option, Some, None, Contains, refl, sym, ap, subst, ◌∙◌, arith, length-append}
+use Rattle.std.proofs.Common.{◌≡◌, ◌≢◌, ℕ, zero, suc, ◌+◌, ◌<◌, ◌≤◌, ◌⊎◌, inl, inr, Bool, true, false, not, cond, ◌||◌, ◌==◌, List, [], ◌∷◌, ◌++◌, length, Option, Some, None, refl, sym, ap, subst, ◌∙◌, arith, length-append}
 use Rattle.std.proofs.lemmas.Bool.Decides.{nat_tests}
 use Rattle.qm_denot.specs.declared.Wire.{Wire}
 use Rattle.qm_denot.specs.declared.Letter.{Letter}
@@ -7,7 +7,6 @@ use Rattle.qm_denot.specs.Circuits.{halves_of, halvings}
 use Rattle.qm_denot.proofs.Amplitudes.{halvings-append}
 use Rattle.qm_tool.specs.declared.program.Instruction.{Instruction}
 use Rattle.qm_tool.specs.declared.program.Instruction.TheVariants.{Alloc, X, H, T, Cx}
-use Rattle.qm_tool.specs.declared.full_slot.FullSlot.{FullSlot}
 use Rattle.qm_tool.specs.Programs.{is_filled, is_lawful, HasSlots}
 use Rattle.qm_tool.specs.Runs.{RankState, at_rest, wire_made, filled, on_slot, on_slots, letters_of, after, after_all, state_of}
 use Rattle.qm_tool.specs.StateText.{slot_if, full_slots}

@@ -1,5 +1,5 @@
 -- One turn of a run: what is known of the next instruction, and what a letter or a new wire makes of the rank's state
-use Rattle.std.proofs.Common.{◌≡◌, ◌≢◌, ℕ, zero, suc, ◌+◌, ◌-◌, ◌<◌, ◌≤◌, ◌^◌, ◌⊎◌, inl, inr, Bool, true, false, not, ◌&&◌, ◌||◌, ◌==◌, List, [], ◌∷◌, ◌++◌, length, take, drop, get_or, set, cond, Option, Some, None, Result, Ok, Err, IsErr, OnOk, OnErr, All, Contains, refl, sym, ap, subst, ◌∙◌, arith, add-one}
+use Rattle.std.proofs.Common.{◌≡◌, ◌≢◌, ℕ, zero, suc, ◌+◌, ◌-◌, ◌<◌, ◌≤◌, ◌^◌, ◌⊎◌, inl, inr, Bool, true, false, not, ◌&&◌, ◌==◌, List, [], ◌∷◌, ◌++◌, length, take, drop, get_or, set, cond, Option, Some, None, Result, Ok, Err, IsErr, OnOk, OnErr, Contains, refl, sym, ap, subst, ◌∙◌, arith, add-one}
 use Rattle.std.proofs.Math.Seq.{take-suc, drop-cons}
 use Rattle.std.proofs.lemmas.List.{take-append-drop}
 use Rattle.std.proofs.lemmas.List.Elements.{All-get_or}
@@ -7,14 +7,13 @@ use Rattle.std.proofs.lemmas.Bool.Decides.{nat_tests}
 use Rattle.std.specs.Prelude.{slice_get}
 use Rattle.qm_denot.specs.declared.Wire.{Wire}
 use Rattle.qm_denot.specs.declared.Letter.{Letter}
-use Rattle.qm_denot.specs.declared.Letter.TheVariants.{Phase, Flip, Had}
 use mathlib.Core.Path.{fun_ext}
 use Rattle.qm_denot.specs.Circuits.{Amplitudes, Circuit}
-use Rattle.qm_denot.specs.Stores.{Store, StandsFor, IsReducedForm, LeavesRange}
+use Rattle.qm_denot.specs.Stores.{Store, StandsFor, LeavesRange}
 use Rattle.qm_denot.proofs.Unique.{one_form, exponent_at_most}
 use Rattle.qm_tool.specs.declared.program.Instruction.{Instruction}
-use Rattle.qm_tool.specs.declared.program.Instruction.TheVariants.{Alloc, X, H, T, Cx}
-use Rattle.qm_tool.specs.Programs.{Listing, IsReady, is_filled, is_lawful, HasSlots}
+use Rattle.qm_tool.specs.declared.program.Instruction.TheVariants.{Alloc, X, H, Cx}
+use Rattle.qm_tool.specs.Programs.{Listing, is_filled, is_lawful, HasSlots}
 use Rattle.qm_tool.specs.Runs.{RankState, wire_made, filled, letters_of, after, state_of, IsRefusedAfter, RunsThrough, StopsAfter}
 use Rattle.qm_tool.specs.Ranks.{MayRun, IsAt, SameSlots, wires_made}
 use Rattle.qm_tool.proofs.SlotLaws.{SlotsHold, slots_hold-none, slots_hold-push, state_of-push, full_slots-below}

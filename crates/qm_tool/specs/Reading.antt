@@ -1,5 +1,5 @@
 -- What a text says: a program, or where and why it is refused
-use Rattle.std.specs.Prelude.{◌≡◌, ℕ, ◌+◌, ◌<◌, ◌≤◌, false, List, [], ◌∷◌, ◌++◌, length, Some}
+use Rattle.std.specs.Prelude.{◌≡◌, ℕ, ◌≤◌, false, List, [], ◌∷◌, ◌++◌, length, Some}
 use Rattle.std.specs.List.{flat_map}
 use Rattle.qm_tool.specs.declared.program.Instruction.{Instruction}
 use Rattle.qm_tool.specs.declared.refusal.Refusal.{Refusal}

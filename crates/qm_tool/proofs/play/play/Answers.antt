@@ -1,4 +1,4 @@
-use Rattle.std.proofs.Common.{◌≡◌, false, OnOk, Result, Ok, Err, take, sym, subst, ◌∙◌, arith}
+use Rattle.std.proofs.Common.{◌≡◌, false, OnOk, Result, Ok, Err, sym, subst, ◌∙◌, arith}
 use Rattle.std.proofs.lemmas.List.{take_all}
 use Rattle.std.specs.Result.{is_err}
 use Rattle.qm_tool.specs.Ranks.{IsAt}

@@ -1,4 +1,4 @@
-use Rattle.std.proofs.Common.{◌≡◌, ◌<◌, ℕ, zero, suc, List, [], ◌∷◌, ◌++◌, Option, Some, None, refl, arith}
+use Rattle.std.proofs.Common.{refl}
 use Rattle.qm_tool.proofs.Turns.{runs_through-none, none_in_slots}
 use Rattle.qm_tool.proofs.play.Rank.start.Goals as goal
 

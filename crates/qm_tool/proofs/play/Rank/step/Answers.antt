@@ -1,8 +1,8 @@
-use Rattle.std.proofs.Common.{◌≡◌, ◌≢◌, ◌<◌, ◌+◌, ◌++◌, ◌∷◌, [], true, false, ℕ, Option, Some, None, take, length, arith, refl, sym, ap, subst, ◌∙◌}
+use Rattle.std.proofs.Common.{Some, take, arith, refl, sym, ap, subst, ◌∙◌}
 use Rattle.qm_denot.specs.declared.Letter.TheVariants as letter
-use Rattle.qm_tool.specs.declared.program.Instruction.TheVariants.{Alloc, X, H, T, Cx}
+use Rattle.qm_tool.specs.declared.program.Instruction.TheVariants.{X, H, T, Cx}
 use Rattle.qm_tool.specs.Programs.{listing_of}
-use Rattle.qm_tool.specs.Runs.{on_slot, on_slots, state_of, after}
+use Rattle.qm_tool.specs.Runs.{on_slot, on_slots, state_of}
 use Rattle.qm_tool.specs.Ranks.{IsAt}
 use Rattle.qm_tool.proofs.Turns.{turn_read, not_true, absent_next, room_next, made_few, at_alloc, slot_full, slot_wire, wire_live, wires_apart, may_grow, at_letter, not_refused, had_refused, refused_had, on_ok-map, on_err, stops_at, lawful_cx, state_of-letter, on_ok-both}
 use Rattle.qm_tool.proofs.play.Rank.step.Goals as goal

@@ -1,0 +1,9 @@
+pub mod Checks
+pub mod Errors
+pub mod Faults
+pub mod Messages
+pub mod Operands
+pub mod Slots
+pub mod Tallies
+pub mod Tapes
+pub mod Totals

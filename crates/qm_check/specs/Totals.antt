@@ -1,0 +1,18 @@
+-- How many events there are, and how many outcomes are taken
+use Rattle.std.specs.Prelude.{List, sum_by}
+use Rattle.qm_instr.specs.declared.Instr.{Instr}
+use Rattle.qm_instr.specs.Counts.{events_of, protocol_of, own_of}
+use Rattle.qm_instr.specs.Programs.{RankProgram}
+use Rattle.qm_check.specs.declared.totals.Totals.{Totals}
+
+-- the totals of these instructions
+abbrev pub totals_of : List Instr → Totals
+totals_of is = record { events = sum_by events_of is; protocol = sum_by protocol_of is; own = sum_by own_of is }
+
+-- the totals of these ranks
+abbrev pub totals_over : List RankProgram → Totals
+totals_over rs = record {
+  events = sum_by (λ r. sum_by events_of r.instructions) rs;
+  protocol = sum_by (λ r. sum_by protocol_of r.instructions) rs;
+  own = sum_by (λ r. sum_by own_of r.instructions) rs;
+}

@@ -1,0 +1,78 @@
+//! The check of the programs of all ranks before they run: ready, or the first fault.
+#![tactic(auto)]
+
+mod checking;
+mod messages;
+mod operands;
+mod slots;
+mod tapes;
+mod totals;
+
+pub use checking::{Ready, check};
+
+#[cfg(test)]
+mod tests;
+
+use qm_instr::Lane;
+
+/// A fault of the programs. `at` counts a rank's instructions from 0.
+#[derive(Clone, Copy, PartialEq, Eq, Debug)]
+pub enum Fault {
+    /// The slots and buffers of all ranks are too many together: above 20 in version 1, above 22 in version 2.
+    TooWide {
+        capacity: u32,
+    },
+    /// An instruction names a rank that there isn't.
+    BadRank {
+        rank: u16,
+        at: u32,
+    },
+    /// An instruction names its own rank.
+    SelfMessage {
+        rank: u16,
+        at: u32,
+    },
+    /// A gate on two qubits has one slot twice.
+    SameSlot {
+        rank: u16,
+        at: u32,
+    },
+    /// A slot that must be full is empty.
+    SlotEmpty {
+        rank: u16,
+        at: u32,
+    },
+    /// A slot that must be empty is full.
+    SlotFull {
+        rank: u16,
+        at: u32,
+    },
+    /// A lane has more sends than receives, or fewer.
+    UnmatchedLane {
+        lane: Lane,
+        sends: u32,
+        receives: u32,
+    },
+    /// A rank's own tape, or its protocol tape, hasn't as many outcomes as the rank takes from it.
+    TapeLength {
+        rank: u16,
+        own: bool,
+        needs: u32,
+        has: u32,
+    },
+}
+
+/// Why programs aren't ready.
+#[derive(Clone, Copy, PartialEq, Eq, Debug)]
+pub enum CheckError {
+    Fault { fault: Fault },
+    /// The allocator has no memory left.
+    Memory,
+}
+
+/// How many messages are posted on a lane.
+#[derive(Clone, Copy, PartialEq, Eq, Debug)]
+pub struct LaneCount {
+    pub lane: Lane,
+    pub sends: u32,
+}

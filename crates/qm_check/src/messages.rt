@@ -1,0 +1,156 @@
+//! How many messages each lane has, and lanes on which sends and receives don't match.
+ghost use Rattle.std.specs.Prelude.{◌≡◌, ◌<◌, ◌≤◌, length, IfOk, OnOk};
+ghost use Rattle.std.specs.BTreeMap.{IsOrdered};
+ghost use Rattle.qm_instr.specs.Programs.{rank_of};
+ghost use Rattle.qm_check.specs.Messages.{is_lane, lane_posted, match_fault};
+ghost use Rattle.qm_check.specs.Tallies.{code_order, tally, tally_in, plus, plus_at, rank_tally, lane_tally, plus_instruction, IsAtMost, first_mismatch, sends_listed};
+
+use crate::{Fault, LaneCount};
+use qm_instr::{Input, Instr, Kind, Lane, receive_lane, send_lane};
+use std::alloc::{AllocError, Global};
+use std::collections::BTreeMap;
+
+/// How many messages a lane has.
+#[derive(Clone, Copy, PartialEq, Eq, Debug)]
+pub(crate) struct Tally {
+    pub(crate) sends: u32,
+    pub(crate) receives: u32,
+}
+
+impl Tally {
+    const NONE: Tally = Tally {
+        sends: 0,
+        receives: 0,
+    };
+
+    const SEND: Tally = Tally {
+        sends: 1,
+        receives: 0,
+    };
+
+    const RECEIVE: Tally = Tally {
+        sends: 0,
+        receives: 1,
+    };
+}
+
+/// The tallies of the lanes that have messages.
+pub(crate) type Tallies = BTreeMap<Lane, Tally>;
+
+/// The lane on which an instruction of a rank posts: that of its send, or of its answer to a reach.
+fn posted_lane(rank: u16, i: Instr) -> Option<Lane>
+    ensures { result ≡ lane_posted rank i }
+{
+    match i {
+        Instr::ReachFrom { from, tag, .. } => Some(Lane {
+            from: rank,
+            to: from,
+            kind: Kind::Back,
+            tag,
+        }),
+        _ => send_lane(rank, i),
+    }
+}
+
+/// Adds a message to the tally of its lane, if it has one.
+fn note_message(tallies: &mut Tallies, on: Option<Lane>, more: Tally) -> Result<(), AllocError>
+    requires few { (a : Lane) → IsAtMost 1000000 (tally_in tallies.old a) }
+    requires one_more { IsAtMost 1 more }
+    ensures { OnOk result
+        ((a : Lane) → tally_in tallies.new a ≡ plus_at on more a (tally_in tallies.old a)) }
+{
+    let Some(lane) = on else {
+        return Ok(());
+    };
+    let had = tallies.get(&lane).copied().unwrap_or(Tally::NONE);
+    let now = Tally {
+        sends: had.sends + more.sends,
+        receives: had.receives + more.receives,
+    };
+    tallies.insert(lane, now)?;
+    Ok(())
+}
+
+/// Adds the messages of an instruction of a rank.
+fn note_instruction(tallies: &mut Tallies, rank: u16, i: Instr) -> Result<(), AllocError>
+    requires { (a : Lane) → IsAtMost 900000 (tally_in tallies.old a) }
+    ensures { OnOk result
+        ((a : Lane) → tally_in tallies.new a ≡ plus_instruction rank i a (tally_in tallies.old a)) }
+{
+    note_message(tallies, posted_lane(rank, i), Tally::SEND)?;
+    note_message(tallies, receive_lane(rank, i), Tally::RECEIVE)?;
+    Ok(())
+}
+
+/// Adds the messages of a rank.
+fn note_rank(tallies: &mut Tallies, input: &Input, rank: u16) -> Result<(), AllocError>
+    requires known { rank < length input.now.ranks }
+    requires few { (a : Lane) → IsAtMost 100000 (tally_in tallies.old a) }
+    ensures { let is = (rank_of input.now rank).instructions in
+        OnOk result ((a : Lane) → tally_in tallies.new a ≡ plus (tally_in tallies.old a) (rank_tally rank is a)) }
+{
+    for at in 0..input.count(rank) {
+        let Some(i) = input.instr(rank, at) else {
+            unreachable!()
+        };
+        note_instruction(tallies, rank, i)?;
+    }
+    Ok(())
+}
+
+/// The tallies of all lanes.
+pub(crate) fn tally_lanes(alloc: Global, input: &Input) -> Result<Tallies, AllocError>
+    ensures { IfOk result (λ m. (a : Lane) → tally_in m a ≡ lane_tally input.now a) }
+{
+    let mut tallies = BTreeMap::new(alloc);
+    for rank in 0..input.ranks() {
+        note_rank(&mut tallies, input, rank)?;
+    }
+    Ok(tallies)
+}
+
+/// The fault of a lane with this tally. Lanes that carry answers have none.
+fn fault_of_tally(lane: Lane, tally: Tally) -> Option<Fault>
+    ensures { result ≡ match_fault lane tally.sends tally.receives }
+{
+    let Tally { sends, receives } = tally;
+    if matches!(lane.kind, Kind::Back) || sends == receives {
+        return None;
+    }
+    Some(Fault::UnmatchedLane {
+        lane,
+        sends,
+        receives,
+    })
+}
+
+/// The fault of the lowest lane that has one.
+pub(crate) fn fault_of_lanes(tallies: &Tallies) -> Option<Fault>
+    ensures ordered { IsOrdered code_order tallies.now }
+    ensures value { result ≡ first_mismatch tallies.now.entries }
+{
+    for (lane, tally) in tallies {
+        let fault = fault_of_tally(*lane, *tally);
+        if fault.is_some() {
+            return fault;
+        }
+    }
+    None
+}
+
+/// The lanes on which messages are posted, in their order, and how many.
+pub(crate) fn send_counts(alloc: Global, tallies: &Tallies) -> Result<Vec<LaneCount>, AllocError>
+    ensures ordered { IsOrdered code_order tallies.now }
+    ensures value { IfOk result (λ v. v.items ≡ sends_listed tallies.now.entries) }
+{
+    let mut counts = Vec::new(alloc);
+    for (lane, tally) in tallies {
+        if tally.sends > 0 {
+            counts.push(LaneCount {
+                lane: *lane,
+                sends: tally.sends,
+            })?;
+        }
+    }
+    Ok(counts)
+}

@@ -1,0 +1,102 @@
+//! The faults of single instructions: the ranks that they name, and their slots.
+ghost use Rattle.std.specs.Prelude.{◌≡◌, ◌<◌, ℕ, length, false, take, slice_get, slice_index_or};
+ghost use Rattle.qm_instr.specs.Programs.{rank_of};
+ghost use Rattle.qm_check.specs.Faults.{IsFirst, IsBelow, IsEarlierStep};
+ghost use Rattle.qm_check.specs.Operands.{uses_of};
+ghost use Rattle.qm_check.specs.Slots.{HasFewSlots, is_full_after, partner_fault, slot_fault, instruction_fault, step_fault};
+
+use crate::Fault;
+use crate::operands::{Uses, partner, slot_uses};
+use qm_instr::{Input, Instr};
+
+/// How many slots a rank may have.
+const SLOTS: usize = 16;
+
+/// The fault of an instruction by the rank that it names.
+fn fault_of_partner(ranks: u16, rank: u16, at: u32, named: Option<u16>) -> Option<Fault>
+    ensures { result ≡ partner_fault ranks rank at named }
+{
+    let other = named?;
+    if other >= ranks {
+        Some(Fault::BadRank { rank, at })
+    } else if other == rank {
+        Some(Fault::SelfMessage { rank, at })
+    } else {
+        None
+    }
+}
+
+/// The fault of an instruction by its slots, some of which are full.
+fn fault_of_slots(rank: u16, at: u32, full: &[bool; SLOTS], what: Uses) -> Option<Fault>
+    requires { HasFewSlots what }
+    ensures { result ≡ slot_fault rank at (λ q. slice_index_or full.now q false) what }
+{
+    match what {
+        Uses::Nothing => None,
+        Uses::Fills { q } if full[usize::from(q)] => Some(Fault::SlotFull { rank, at }),
+        Uses::Fills { .. } => None,
+        Uses::Keeps { q } | Uses::Empties { q } if full[usize::from(q)] => None,
+        Uses::Joins { c, t } if c == t => Some(Fault::SameSlot { rank, at }),
+        Uses::Joins { c, t } if full[usize::from(c)] && full[usize::from(t)] => None,
+        _ => Some(Fault::SlotEmpty { rank, at }),
+    }
+}
+
+/// The first fault of an instruction.
+fn fault_of_instruction(
+    ranks: u16,
+    rank: u16,
+    at: u32,
+    full: &[bool; SLOTS],
+    i: Instr,
+) -> Option<Fault>
+    requires { HasFewSlots (uses_of i) }
+    ensures { result ≡ instruction_fault ranks rank at (λ q. slice_index_or full.now q false) i }
+{
+    fault_of_partner(ranks, rank, at, partner(i)).or(fault_of_slots(rank, at, full, slot_uses(i)))
+}
+
+/// Fills and empties slots as an instruction does.
+fn note_slots(full: &mut [bool; SLOTS], what: Uses)
+    requires { HasFewSlots what }
+    ensures { (q : ℕ) → q < 16
+        → slice_index_or full.new q false ≡ is_full_after q (slice_index_or full.old q false) what }
+{
+    match what {
+        Uses::Fills { q } => full[usize::from(q)] = true,
+        Uses::Empties { q } => full[usize::from(q)] = false,
+        Uses::Nothing | Uses::Keeps { .. } | Uses::Joins { .. } => {}
+    }
+}
+
+/// The first fault of a rank's instructions.
+fn rank_fault(input: &Input, rank: u16) -> Option<Fault>
+    requires { rank < length input.now.ranks }
+    ensures { IsFirst IsBelow (step_fault input.now rank) result }
+{
+    let mut full = [false; SLOTS];
+    for at in 0..input.count(rank) {
+        let Some(i) = input.instr(rank, at) else {
+            unreachable!()
+        };
+        let fault = fault_of_instruction(input.ranks(), rank, at, &full, i);
+        if fault.is_some() {
+            return fault;
+        }
+        note_slots(&mut full, slot_uses(i));
+    }
+    None
+}
+
+/// The first fault of all instructions, by rank.
+pub(crate) fn fault_of_steps(input: &Input) -> Option<Fault>
+    ensures { IsFirst IsEarlierStep (λ s. step_fault input.now s.0 s.1) result }
+{
+    for rank in 0..input.ranks() {
+        let fault = rank_fault(input, rank);
+        if fault.is_some() {
+            return fault;
+        }
+    }
+    None
+}
