@@ -1,3 +1,4 @@
 pub mod Messages
 pub mod Meetings
 pub mod WorkedRuns
+pub mod Orders
