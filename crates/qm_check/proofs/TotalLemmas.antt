@@ -31,7 +31,7 @@ pub record IsCounted (so_far : Totals) (k e p o : ℕ) (t : Totals) : Type 0 whe
   pub few_protocol : t.protocol ≤ p * k
   pub few_own : t.own ≤ o * k
 
-sum_more : {X : Type 0} (f : X → ℕ) (xs : List X) (k : ℕ) (x : X) → slice_get xs k ≡ Some x → sum_by f (take (k + 1) xs) ≡ sum_by f (take k xs) + f x
+pub sum_more : {X : Type 0} (f : X → ℕ) (xs : List X) (k : ℕ) (x : X) → slice_get xs k ≡ Some x → sum_by f (take (k + 1) xs) ≡ sum_by f (take k xs) + f x
 sum_more f xs k x read =
     sum_by_more f xs k x (slice_get_within xs k x read) ∙ ap (λ y. sum_by f (take k xs) + f y) (get_or_from_slice_get xs k x x read)
 

@@ -2,3 +2,13 @@ pub mod Messages
 pub mod Meetings
 pub mod WorkedRuns
 pub mod Orders
+pub mod Firsts
+pub mod OneRank
+pub mod ActLists
+pub mod Replays
+pub mod Changes
+pub mod TidyPlaces
+pub mod TidyChanges
+pub mod TidyLanes
+pub mod TidyActs
+pub mod Positions

@@ -5,4 +5,7 @@ pub mod Rows
 pub mod Runs
 pub mod Schedules
 pub mod Places
+pub mod May
+pub mod Tidy
 pub mod Ideal
+pub mod OneRank

@@ -8,6 +8,8 @@ pub mod laws;
 mod worked;
 
 pub use events::next_event;
+use qm_denot::Wire;
+use qm_instr::Lane;
 
 /// One event of a run: the steps in which an instruction is done.
 #[derive(Clone, Copy, PartialEq, Eq, Debug)]
@@ -53,4 +55,24 @@ pub enum Cause {
     NotEqual,
     /// Some rank has events left, and none may have its next one.
     Stuck,
+}
+
+/// A parcel of a lane: the wire that it carries, if it does, and its two bits, once it has them.
+#[derive(Clone, Copy, PartialEq, Eq, Debug)]
+pub struct Parcel {
+    pub wire: Option<Wire>,
+    pub bits: Option<(bool, bool)>,
+}
+
+/// What an event waits for.
+#[derive(Clone, Copy, PartialEq, Eq, Debug)]
+pub enum Rule {
+    /// Nothing.
+    Always,
+    /// The lane's receiver has room for one more half, or wants it.
+    PairRoom { lane: Lane },
+    /// The lane's receiver stands at a receive of it, and the lane is empty.
+    Engaged { lane: Lane },
+    /// The lane's front parcel has its bits.
+    Filled { lane: Lane },
 }

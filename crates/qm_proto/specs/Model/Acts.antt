@@ -5,7 +5,8 @@ use Rattle.qm_denot.specs.declared.Letter.{Letter}
 use Rattle.qm_denot.specs.declared.Letter.TheVariants.{Pair, Take}
 use Rattle.qm_denot.specs.WireLists.{without_wire}
 use Rattle.qm_instr.specs.declared.Lane.{Lane}
-use Rattle.qm_proto.specs.Model.State.{Parcel, Part, Tables, with_at, with_slot, with_lane, with_part, wire_in, far_made, near_made, near_last, front}
+use Rattle.qm_proto.specs.declared.Parcel.{Parcel}
+use Rattle.qm_proto.specs.Model.State.{Part, Tables, with_at, with_slot, with_lane, with_part, wire_in, far_made, near_made, near_last, front}
 
 -- one act of a rank
 pub data Act : Type 0 where

@@ -11,20 +11,15 @@ use Rattle.qm_instr.specs.declared.Gate.TheVariants as gate
 use Rattle.qm_instr.specs.declared.Instr.{Instr}
 use Rattle.qm_instr.specs.declared.Instr.TheVariants as instr
 use Rattle.qm_instr.specs.declared.Kind.TheVariants as kind
-use Rattle.qm_instr.specs.declared.Lane.{Lane}
 use Rattle.qm_instr.specs.Lanes.{lane}
 use Rattle.qm_instr.specs.Programs.{Programs, rank_of}
 use Rattle.qm_proto.specs.declared.Event.{Event}
 use Rattle.qm_proto.specs.declared.Event.TheVariants as event
-use Rattle.qm_proto.specs.Model.State.{Parcel, Tables, no_wire, wire_in, bit_of, own_next, protocol_next, far_made, near_last, front, wire_of, first_bit, second_bit}
+use Rattle.qm_proto.specs.declared.Parcel.{Parcel}
+use Rattle.qm_proto.specs.declared.Rule.{Rule}
+use Rattle.qm_proto.specs.declared.Rule.TheVariants.{Always, PairRoom, Engaged, Filled}
+use Rattle.qm_proto.specs.Model.State.{Tables, no_wire, wire_in, bit_of, own_next, protocol_next, far_made, near_last, front, wire_of, first_bit, second_bit}
 use Rattle.qm_proto.specs.Model.Acts.{Act, Fresh, Twin, Apply, SlotOut, NearOut, FarOut, Settle, Posts, Fills, Receives, OwnUsed, ProtocolUsed, FirstKept, BitSet}
-
--- what an event waits for
-pub data Rule : Type 0 where
-  Always : Rule  -- nothing
-  PairRoom : Lane → Rule  -- the lane's receiver has room for one more half, or wants it
-  Engaged : Lane → Rule  -- the lane's receiver stands at a receive of it, and the lane is empty
-  Filled : Lane → Rule  -- the lane's front parcel has its bits
 
 -- a test of an event: where it fails, the event is refused
 pub data Check : Type 0 where

@@ -12,9 +12,11 @@ use Rattle.qm_instr.specs.Lanes.{lane_received}
 use Rattle.qm_instr.specs.Programs.{Programs, rank_of}
 use Rattle.qm_proto.specs.declared.Cause.{Cause}
 use Rattle.qm_proto.specs.declared.Cause.TheVariants as cause
+use Rattle.qm_proto.specs.declared.Rule.{Rule}
+use Rattle.qm_proto.specs.declared.Rule.TheVariants.{Always, PairRoom, Engaged, Filled}
 use Rattle.qm_proto.specs.Model.State.{Part, Tables, State, is_lane, with_part, front}
 use Rattle.qm_proto.specs.Model.Acts.{all_done, all_letters}
-use Rattle.qm_proto.specs.Model.Rows.{Rule, Always, PairRoom, Engaged, Filled, Check, Possible, Zero, Equal, Fits, Row, current, rows}
+use Rattle.qm_proto.specs.Model.Rows.{Check, Possible, Zero, Equal, Fits, Row, current, rows}
 
 -- the line of the table at which rank r stands, where it has an event left
 abbrev pub row_in : Programs → Tables → ℕ → Option Instr → Option Row

@@ -81,6 +81,14 @@ IsFirstFrom p s (r ∷ rs) = IsLowestEnabled p s.tables r × IsAllowed p s r × 
 unfoldable pub IsFirst : Programs → List ℕ → Type 0
 IsFirst p schedule = IsFirstFrom p (state_at_start p) schedule
 
+-- the beginnings of that schedule: each entry is the lowest enabled rank in the state that the entries before it leave, and is allowed
+abbrev pub IsFirstSoFarFrom : Programs → State → List ℕ → Type 0
+IsFirstSoFarFrom p s [] = Unit {0}
+IsFirstSoFarFrom p s (r ∷ rs) = IsLowestEnabled p s.tables r × IsAllowed p s r × IsFirstSoFarFrom p (next p s r) rs
+
+unfoldable pub IsFirstSoFar : Programs → List ℕ → Type 0
+IsFirstSoFar p schedule = IsFirstSoFarFrom p (state_at_start p) schedule
+
 -- the programs with every buffer of size 1
 abbrev pub with_buffer_of_one : RankProgram → RankProgram
 with_buffer_of_one x = record x { buffer = 1 }

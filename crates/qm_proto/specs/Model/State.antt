@@ -5,11 +5,7 @@ use Rattle.qm_denot.specs.Circuits.{Circuit}
 use Rattle.qm_instr.specs.declared.Kind.{Kind}
 use Rattle.qm_instr.specs.declared.Kind.TheVariants as kind
 use Rattle.qm_instr.specs.declared.Lane.{Lane}
-
--- a parcel of a lane: the wire that it carries, if it does, and its two bits, once it has them
-pub record Parcel : Type 0 where
-  pub wire : Option Wire
-  pub bits : Option (Bool × Bool)
+use Rattle.qm_proto.specs.declared.Parcel.{Parcel}
 
 -- one rank, but for its wires
 pub record Part : Type 0 where

@@ -1,0 +1,37 @@
+use Rattle.std.proofs.Common.{◌∙◌, ap, refl, drop, length, arith, length-set, slice_index_or, false}
+use Rattle.qm_proto.specs.Model.State.{Part}
+use Rattle.qm_machine.specs.Views.{RankView, facts, mail_of, tables_of}
+use Rattle.qm_machine.proofs.RankTables.{part_view, view_read, tables_changed, part_changed}
+use Rattle.qm_machine.proofs.Squares.{did_use}
+use Rattle.qm_machine.proofs.body.Body.use_protocol.Goals as goal
+
+pub index_mut-requires : goal.index_mut-requires
+unfolding facts
+index_mut-requires g c = let e = c.args.self.now.ranks.ok.0 in let h = c.requires.known in omega arith
+
+pub use_protocol-requires : goal.use_protocol-requires
+unfolding facts
+use_protocol-requires g c =
+    let read = view_read c.args.self.now.ranks.items c.from.result c.args.rank c.index_mut.result.now c.from.ensures c.requires.known c.index_mut.ensures.value in
+    let left = ap (λ (x : RankView). length x.part.protocol) read in
+    let h = c.requires.may.0 in
+    rw left h
+
+pub returns-clause-value : goal.returns-clause-value
+unfolding facts
+returns-clause-value g c =
+    let read = view_read c.args.self.now.ranks.items c.from.result c.args.rank c.index_mut.result.now c.from.ensures c.requires.known c.index_mut.ensures.value in
+    c.use_protocol.ensures.value ∙ ap (λ (x : RankView). slice_index_or x.part.protocol 0 false) read
+
+pub returns-clause-did : goal.returns-clause-did
+unfolding facts
+returns-clause-did g c =
+    let ranks = c.args.self.now.ranks.items in
+    let mail = mail_of c.args.self.now.mail in
+    let r = c.args.rank in
+    let old = c.index_mut.result.now in
+    let new = c.use_protocol.new.self in
+    let used = λ (x : Part). record x { protocol = drop 1 x.protocol } in
+    did_use _ _ r (record { store = refl; parcels = refl; ranks = length-set ranks c.from.result new; letters = refl; paulis = refl }) c.requires
+    (tables_changed ranks mail c.from.result r old new (part_view used) c.from.ensures c.requires.known c.index_mut.ensures.value c.use_protocol.ensures.rest
+    ∙ part_changed (tables_of ranks mail) r used)

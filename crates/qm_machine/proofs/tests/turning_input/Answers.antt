@@ -1,0 +1,51 @@
+use Rattle.std.proofs.Common.{rules, ◌≡◌, ◌<◌, ◌+◌, ◌*◌, ℕ, zero, suc, true, All, List, [], ◌∷◌, ◌++◌, length, length-append, refl, subst, sym, ◌∙◌, ap, arith, add-one}
+use Rattle.std.proofs.lemmas.List.Elements.{All-nil, All-cons, All-push}
+use Rattle.qm_check.specs.Checks.{capacity_of}
+use Rattle.qm_instr.specs.declared.Instr.{Instr}
+use Rattle.qm_instr.specs.Programs.{Programs, RankProgram, idle_rank, instruction_total, with_instruction}
+use Rattle.qm_machine.specs.Built.{is_built, IsRankBuilt, IsBuilt}
+use Rattle.qm_machine.proofs.tests.turning_input.Invariants.{make, had, turn, turned, first_does}
+use Rattle.qm_machine.proofs.tests.turning_input.Goals as goal
+
+abbrev Built : Instr → Type 0
+Built i = is_built i ≡ true
+
+turned_built : (n : ℕ) → All Built (turned n)
+turned_built zero = All-cons Built make [] refl (All-nil Built)
+turned_built (suc n) = All-push Built (turned n ++ had ∷ []) turn (All-push Built (turned n) had (turned_built n) refl) refl
+
+does_built : (n : ℕ) → IsBuilt (first_does (turned n))
+does_built n =
+    All-cons IsRankBuilt (record idle_rank { instructions = turned n }) (idle_rank ∷ []) (turned_built n)
+    (All-cons IsRankBuilt idle_rank [] (All-nil Built) (All-nil IsRankBuilt))
+
+turned_length : (n : ℕ) → length (turned n) ≡ 1 + 2 * n
+turned_length zero = refl
+turned_length (suc n) = simp length-append (omega (arith, turned_length n))
+
+few : (p : Programs) (n : ℕ) → p ≡ first_does (turned n) → n < 1000 → instruction_total p + 1 < 100000
+few p n e h = rw e (omega (arith, turned_length n))
+
+pub loop-init : goal.loop-init
+loop-init c = rw (c.in_ok-push.ensures.ok, c.in_ok-input.ensures) refl
+
+pub push-requires-in-loop-clause-known : goal.push-requires-in-loop-clause-known
+push-requires-in-loop-clause-known c = rw c.loop.invariant (omega arith)
+
+pub push-requires-in-loop-clause-operands : goal.push-requires-in-loop-clause-operands
+push-requires-in-loop-clause-operands c = rw c.loop.invariant (search rules)
+
+pub push-requires-in-loop-clause-few : goal.push-requires-in-loop-clause-few
+push-requires-in-loop-clause-few c = omega (arith, few c.loop.input c.loop.counter c.loop.invariant (omega arith))
+
+pub push-requires-in-loop-2-clause-few : goal.push-requires-in-loop-2-clause-few
+push-requires-in-loop-2-clause-few c = omega (arith, c.in_ok-push-2.ensures.total, few c.loop.input c.loop.counter c.loop.invariant (omega arith))
+
+pub loop-preserved : goal.loop-preserved
+loop-preserved c = rw (c.in_ok-push-3.ensures.ok, c.in_ok-push-2.ensures.ok, c.loop.invariant, add-one) refl
+
+pub returns-clause-built : goal.returns-clause-built
+returns-clause-built c = rw c.loop.invariant (does_built c.loop.counter)
+
+pub returns-clause-narrow : goal.returns-clause-narrow
+returns-clause-narrow c = rw c.loop.invariant refl

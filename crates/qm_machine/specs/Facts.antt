@@ -1,0 +1,74 @@
+-- A machine's body as the model sees it, and what acts of a rank make of it
+use Rattle.std.specs.Prelude.{◌≡◌, ℕ, ◌+◌, ◌-◌, ◌<◌, ◌≤◌, ◌^◌, ◌↔◌, ◌==◌, Bool, true, false, List, ◌++◌, length, count_by, Contains}
+use Rattle.qm_denot.specs.declared.Wire.{Wire}
+use Rattle.qm_denot.specs.declared.Letter.{Letter}
+use Rattle.qm_denot.specs.declared.Letter.TheVariants.{Phase, Flip}
+use Rattle.qm_denot.specs.Circuits.{Circuit}
+use Rattle.qm_denot.specs.Stores.{Store, StandsFor}
+use Rattle.qm_instr.specs.declared.Lane.{Lane}
+use Rattle.qm_instr.specs.Programs.{Programs}
+use Rattle.qm_check.specs.Messages.{lane_sends}
+use Rattle.qm_proto.specs.Model.State.{Tables, with_part}
+use Rattle.qm_proto.specs.Model.Acts.{Act, all_done, all_letters}
+use Rattle.qm_proto.specs.Model.Runs.{moved_on}
+use Rattle.qm_proto.specs.Model.Schedules.{tables_at_start}
+use Rattle.qm_proto.specs.Model.Places.{IsPlaced}
+use Rattle.qm_proto.specs.Model.May.{Limits, AllMay, limits_after_all}
+
+-- the tables, the store, how many parcels a lane has room for, how many ranks there are, and how many letters were done, and how many of
+-- them are corrections
+pub record Facts : Type 0 where
+  pub tables : Tables
+  pub store : Store
+  pub parcels : Lane → ℕ
+  pub ranks : ℕ
+  pub letters : ℕ
+  pub paulis : ℕ
+
+-- a letter that corrects: a `Flip`, or the `Phase` of a sign
+abbrev pub is_pauli : Letter → Bool
+is_pauli (Flip w) = true
+is_pauli (Phase k w) = k == 4
+is_pauli _ = false
+
+-- the room that a store leaves
+abbrev pub room_of : Store → ℕ
+room_of s = s.capacity - length s.live
+
+abbrev pub limits_of : Facts → Limits
+limits_of f = record { ranks = f.ranks; wires = room_of f.store; parcels = f.parcels; letters = 2 ^ 32 - f.letters }
+
+-- the live wires are those that have a place, and no more corrections were counted than letters
+pub record IsSound (f : Facts) : Type 0 where
+  pub live : (w : Wire) → Contains f.store.live w ↔ IsPlaced f.tables w
+  pub fewer : f.paulis ≤ f.letters
+
+-- the body is sound, and rank r may do the acts
+pub record Can (f : Facts) (r : ℕ) (acts : List Act) : Type 0 where
+  pub known : r < f.ranks
+  pub sound : IsSound f
+  pub may : AllMay (limits_of f) r acts f.tables
+
+-- rank r has done the acts: the tables are the model's, the store stands for the circuit with their letters, and
+-- the body is sound again
+pub record Did (f : Facts) (r : ℕ) (acts : List Act) (g : Facts) : Type 0 where
+  pub tables : g.tables ≡ all_done r acts f.tables
+  pub stands : (c : Circuit) → StandsFor f.store c → StandsFor g.store (c ++ all_letters r acts f.tables)
+  pub sound : IsSound g
+  pub limits : limits_of g ≡ limits_after_all acts (limits_of f)
+  pub capacity : g.store.capacity ≡ f.store.capacity
+  pub letters : g.letters ≡ f.letters + length (all_letters r acts f.tables)
+  pub paulis : g.paulis ≡ f.paulis + count_by is_pauli (all_letters r acts f.tables)
+
+-- rank r stands at its next event, where its instruction has so many, and nothing else has changed
+abbrev pub moved : Facts → ℕ → ℕ → Facts
+moved f r n = record f { tables = with_part f.tables r (moved_on n (f.tables.parts r)) }
+
+-- a body before the first event of these programs, over a store: nothing has a place, and each lane has room for its sends
+pub record IsAtStart (p : Programs) (s : Store) (f : Facts) : Type 0 where
+  pub tables : f.tables ≡ tables_at_start p
+  pub store : f.store ≡ s
+  pub parcels : (a : Lane) → lane_sends p a ≤ f.parcels a
+  pub ranks : f.ranks ≡ length p.ranks
+  pub letters : f.letters ≡ 0
+  pub paulis : f.paulis ≡ 0

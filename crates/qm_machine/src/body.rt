@@ -1,0 +1,300 @@
+//! The body of a machine: its ranks, its mail and its store, and one method for each act.
+ghost use Rattle.std.specs.Prelude.{◌≡◌, ◌<◌, ◌+◌, ◌^◌, ◌↔◌, true, [], ◌∷◌, ◌++◌, length, OnOk, OnErr, IsErr, IfOk, nat_eq};
+ghost use Rattle.qm_denot.specs.Circuits.{Circuit};
+ghost use Rattle.qm_denot.specs.Stores.{StandsFor, Overflows, MayGrow, MayApply, live_after};
+ghost use Rattle.qm_instr.specs.Programs.{IsInRange};
+ghost use Rattle.qm_proto.specs.Model.State.{far_made, near_last, protocol_next, front};
+ghost use Rattle.qm_proto.specs.Model.Acts.{Fresh, Twin, Apply, NearOut, Settle, Posts, Fills, Receives, ProtocolUsed};
+ghost use Rattle.qm_proto.specs.Model.Runs.{halves};
+ghost use Rattle.qm_machine.specs.Facts.{Can, Did, moved, is_pauli, IsAtStart};
+
+use crate::mail::Mail;
+use crate::rank::Rank;
+use qm_check::Ready;
+use qm_denot::{Amps, Letter, Overflow, Wire};
+use qm_instr::Lane;
+use qm_proto::Parcel;
+use std::alloc::{AllocError, Global};
+
+/// Ranks, mail and store.
+#[derive(Drop)]
+pub(crate) struct Body<A: Amps> {
+    ranks: Vec<Rank>,
+    mail: Mail,
+    amps: A,
+    letters: u64,
+    paulis: u64,
+}
+
+/// Whether the letter is a correction: a `Flip`, or the `Phase` of a sign.
+fn is_pauli(letter: Letter) -> bool
+    ensures { result ≡ is_pauli letter }
+{
+    matches!(letter, Letter::Flip { .. } | Letter::Phase { k: 4, .. })
+}
+
+impl<A: Amps> Body<A> {
+    ghost use Rattle.qm_machine.specs.Views.{facts, view_of, rank_view, number_of_bits};
+
+    /// The body of ready programs before their first event. All its memory is taken here; `AllocError` comes from the allocator alone.
+    pub(crate) fn start(alloc: Global, ready: &Ready, amps: A) -> Result<Body<A>, AllocError>
+        requires { (A.store amps).live ≡ [] }
+        ensures start { IfOk result (λ b. IsAtStart ready.now (A.store amps) (facts A.store b)) }
+        ensures in_range { OnOk result (IsInRange ready.now) }
+        ensures kept { IfOk result (λ b. b.amps ≡ amps) }
+    {
+        let input = ready.input();
+        let mut ranks = Vec::with_capacity(alloc, usize::from(input.ranks()))?;
+        for rank in 0..input.ranks() {
+            ranks.push_reserved(Rank::start(alloc, input.own(rank), input.protocol(rank))?);
+        }
+        Ok(Body {
+            ranks,
+            mail: Mail::start(alloc, ready.lanes())?,
+            amps,
+            letters: 0,
+            paulis: 0,
+        })
+    }
+
+    /// The store.
+    #[tactic(auto, unfolding(crate::specs::Views::facts))]
+    pub(crate) fn amps(&self) -> &A
+        ensures { result.now ≡ self.now.amps }
+    {
+        &self.amps
+    }
+
+    /// How many letters were done.
+    #[tactic(auto, unfolding(crate::specs::Views::facts))]
+    pub(crate) fn letters(&self) -> u64
+        ensures { result ≡ (facts A.store self.now).letters }
+    {
+        self.letters
+    }
+
+    /// How many of them were corrections.
+    #[tactic(auto, unfolding(crate::specs::Views::facts))]
+    pub(crate) fn paulis(&self) -> u64
+        ensures { result ≡ (facts A.store self.now).paulis }
+    {
+        self.paulis
+    }
+
+    /// A rank.
+    fn rank(&self, rank: u16) -> &Rank
+        requires { rank < (facts A.store self.now).ranks }
+        ensures { view_of result.now ≡ rank_view (facts A.store self.now).tables rank }
+    {
+        &self.ranks[usize::from(rank)]
+    }
+
+    /// The number of a rank's next instruction.
+    pub(crate) fn at(&self, rank: u16) -> u32
+        requires { rank < (facts A.store self.now).ranks }
+        ensures { result ≡ ((facts A.store self.now).tables.parts rank).at }
+    {
+        self.rank(rank).at()
+    }
+
+    /// How many events of that instruction it has had.
+    pub(crate) fn stage(&self, rank: u16) -> u32
+        requires { rank < (facts A.store self.now).ranks }
+        ensures { result ≡ ((facts A.store self.now).tables.parts rank).stage }
+    {
+        self.rank(rank).stage()
+    }
+
+    /// The parcel that a rank took last.
+    pub(crate) fn taken(&self, rank: u16) -> Parcel
+        requires { rank < (facts A.store self.now).ranks }
+        ensures { result ≡ ((facts A.store self.now).tables.parts rank).taken }
+    {
+        self.rank(rank).taken()
+    }
+
+    /// The wire that a rank's count names: a qubit or a far half.
+    pub(crate) fn far_made(&self, rank: u16) -> Wire
+        requires { rank < (facts A.store self.now).ranks }
+        ensures { result ≡ far_made (facts A.store self.now).tables rank }
+    {
+        Wire {
+            rank,
+            made: self.rank(rank).made(),
+            near: false,
+        }
+    }
+
+    /// The near half that a rank made last.
+    pub(crate) fn near_last(&self, rank: u16) -> Wire
+        requires { rank < (facts A.store self.now).ranks }
+        ensures { result ≡ near_last (facts A.store self.now).tables rank }
+    {
+        Wire {
+            rank,
+            made: self.rank(rank).made().saturating_sub(1),
+            near: true,
+        }
+    }
+
+    /// The wire in a rank's slot, where it is full.
+    pub(crate) fn slot(&self, rank: u16, q: u8) -> Option<Wire>
+        requires { rank < (facts A.store self.now).ranks }
+        ensures { result ≡ (facts A.store self.now).tables.slots rank q }
+    {
+        self.rank(rank).slot(q)
+    }
+
+    /// How many halves a rank holds.
+    pub(crate) fn halves(&self, rank: u16) -> usize
+        requires { rank < (facts A.store self.now).ranks }
+        ensures { result ≡ halves (facts A.store self.now).tables rank }
+    {
+        self.rank(rank).halves()
+    }
+
+    /// A rank's classical bits as a number, bit 0 the lowest.
+    pub(crate) fn bits(&self, rank: u16) -> u32
+        requires { rank < (facts A.store self.now).ranks }
+        ensures { result ≡ number_of_bits ((facts A.store self.now).tables.parts rank).bits }
+    {
+        self.rank(rank).bits()
+    }
+
+    /// Whether a lane has no parcel.
+    #[tactic(auto, unfolding(crate::specs::Views::facts))]
+    pub(crate) fn is_empty(&self, lane: Lane) -> bool
+        ensures { result ≡ nat_eq (length ((facts A.store self.now).tables.lanes lane)) 0 }
+    {
+        self.mail.is_empty(lane)
+    }
+
+    /// A lane's front parcel; one without wire and bits where it has none.
+    #[tactic(auto, unfolding(crate::specs::Views::facts))]
+    pub(crate) fn front(&self, lane: Lane) -> Parcel
+        ensures { result ≡ front (facts A.store self.now).tables lane }
+    {
+        self.mail.front(lane)
+    }
+
+    /// Puts a fresh wire into a rank's slot.
+    pub(crate) fn fresh(&mut self, rank: u16, q: u8)
+        requires able { A.able }
+        requires can { Can (facts A.store self.old) rank (Fresh q ∷ []) }
+        ensures { Did (facts A.store self.old) rank (Fresh q ∷ []) (facts A.store self.new) }
+    {
+        let w = self.far_made(rank);
+        self.amps.fresh(w);
+        self.ranks[usize::from(rank)].fresh(q, w);
+    }
+
+    /// Prepares an EPR pair: the near half at a rank, the far half at another.
+    pub(crate) fn twin(&mut self, rank: u16, to: u16)
+        requires able { A.able }
+        requires can { Can (facts A.store self.old) rank (Twin to ∷ []) }
+        requires grow { MayGrow (facts A.store self.old).store }
+        ensures { Did (facts A.store self.old) rank (Twin to ∷ []) (facts A.store self.new) }
+    {
+        let f = self.far_made(rank);
+        let e = Wire { near: true, ..f };
+        do_letter(&mut self.amps, Letter::Pair { a: e, b: f });
+        self.ranks[usize::from(rank)].keep_near(e);
+        self.ranks[usize::from(to)].keep_far(f);
+        self.letters += 1;
+    }
+
+    /// Does a letter that moves no wire. `Overflow` comes exactly where a `Had` leaves the range; nothing is changed then.
+    pub(crate) fn letter(&mut self, rank: u16, letter: Letter) -> Result<(), Overflow>
+        requires able { A.able }
+        requires can { Can (facts A.store self.old) rank (Apply letter ∷ []) }
+        requires grow { MayGrow (facts A.store self.old).store }
+        ensures ok { OnOk result (Did (facts A.store self.old) rank (Apply letter ∷ []) (facts A.store self.new)) }
+        ensures overflow { IsErr result ↔ Overflows letter (facts A.store self.old).store }
+        ensures err { OnErr result (facts A.store self.new ≡ facts A.store self.old) }
+    {
+        match self.amps.apply(letter) {
+            Ok(()) => {
+                self.letters += 1;
+                self.paulis += u64::from(is_pauli(letter));
+                Ok(())
+            }
+            Err(refused) => Err(refused),
+        }
+    }
+
+    /// Measures the near half that a rank made last away, with this outcome.
+    pub(crate) fn near_out(&mut self, rank: u16, m: bool)
+        requires able { A.able }
+        requires can { Can (facts A.store self.old) rank (NearOut m ∷ []) }
+        ensures { Did (facts A.store self.old) rank (NearOut m ∷ []) (facts A.store self.new) }
+    {
+        let w = self.near_last(rank);
+        do_letter(&mut self.amps, Letter::Take { w, m });
+        self.ranks[usize::from(rank)].drop_near(w);
+        self.letters += 1;
+    }
+
+    /// Puts a rank's far half into its slot; it is no half any more.
+    pub(crate) fn settle(&mut self, rank: u16, f: Wire, q: u8)
+        requires { Can (facts A.store self.old) rank (Settle f q ∷ []) }
+        ensures { Did (facts A.store self.old) rank (Settle f q ∷ []) (facts A.store self.new) }
+    {
+        self.ranks[usize::from(rank)].settle(f, q);
+    }
+
+    /// Puts a parcel at a lane's end.
+    pub(crate) fn post(&mut self, _rank: u16, lane: Lane, parcel: Parcel)
+        requires { Can (facts A.store self.old) _rank (Posts lane parcel ∷ []) }
+        ensures { Did (facts A.store self.old) _rank (Posts lane parcel ∷ []) (facts A.store self.new) }
+    {
+        self.mail.post(lane, parcel);
+    }
+
+    /// Gives a lane's last parcel its bits.
+    pub(crate) fn fill(&mut self, _rank: u16, lane: Lane, bits: (bool, bool))
+        requires { Can (facts A.store self.old) _rank (Fills lane bits ∷ []) }
+        ensures { Did (facts A.store self.old) _rank (Fills lane bits ∷ []) (facts A.store self.new) }
+    {
+        self.mail.fill(lane, bits);
+    }
+
+    /// Takes a lane's front parcel, which the rank keeps.
+    pub(crate) fn receive(&mut self, rank: u16, lane: Lane)
+        requires { Can (facts A.store self.old) rank (Receives lane ∷ []) }
+        ensures { Did (facts A.store self.old) rank (Receives lane ∷ []) (facts A.store self.new) }
+    {
+        let parcel = self.mail.take(lane);
+        self.ranks[usize::from(rank)].receive(parcel);
+    }
+
+    /// Uses the next outcome of a rank's protocol tape.
+    pub(crate) fn use_protocol(&mut self, rank: u16) -> bool
+        requires { Can (facts A.store self.old) rank (ProtocolUsed ∷ []) }
+        ensures value { result ≡ protocol_next (facts A.store self.old).tables rank }
+        ensures did { Did (facts A.store self.old) rank (ProtocolUsed ∷ []) (facts A.store self.new) }
+    {
+        self.ranks[usize::from(rank)].use_protocol()
+    }
+
+    /// A rank goes on to the next event of its instruction, which has so many.
+    pub(crate) fn move_on(&mut self, rank: u16, events: u32)
+        requires known { rank < (facts A.store self.old).ranks }
+        requires at { ((facts A.store self.old).tables.parts rank).at + 1 < 2 ^ 32 }
+        requires stage { ((facts A.store self.old).tables.parts rank).stage + 1 < 2 ^ 32 }
+        ensures { facts A.store self.new ≡ moved (facts A.store self.old) rank events }
+    {
+        self.ranks[usize::from(rank)].move_on(events);
+    }
+}
+
+/// Does a letter that is never refused.
+fn do_letter<A: Amps>(amps: &mut A, letter: Letter)
+    requires able { A.able }
+    requires may { MayApply letter (A.store amps.old) }
+    requires never { ¬ (Overflows letter (A.store amps.old)) }
+    ensures stands { (c : Circuit) → StandsFor (A.store amps.old) c → StandsFor (A.store amps.new) (c ++ letter ∷ []) }
+    ensures live { (A.store amps.new).live ≡ live_after letter (A.store amps.old).live }
+    ensures capacity { (A.store amps.new).capacity ≡ (A.store amps.old).capacity }
+{
+    let _ = amps.apply(letter);
+}

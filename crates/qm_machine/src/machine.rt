@@ -1,0 +1,194 @@
+//! The machine: a body, the schedule that it has followed, and the halt that it has come to.
+ghost use Rattle.std.specs.Prelude.{◌≡◌, ◌<◌, ◌≤◌, true, false, [], length, count_by, Some, None, IfOk};
+ghost use Rattle.qm_denot.specs.Stores.{StandsFor};
+ghost use Rattle.qm_instr.specs.Programs.{rank_of};
+ghost use Rattle.qm_check.specs.Checks.{capacity_of};
+ghost use Rattle.qm_proto.specs.Model.Runs.{halves};
+ghost use Rattle.qm_proto.specs.Model.Schedules.{AllEnded};
+ghost use Rattle.qm_machine.specs.Built.{IsBuilt};
+ghost use Rattle.qm_machine.specs.Facts.{is_pauli};
+ghost use Rattle.qm_machine.specs.Keeps.{Keeps, StepIs, StateIs, HaltsAt, HasLeft, halt_of, state_of};
+ghost use Rattle.qm_machine.specs.Views.{number_of_bits};
+
+use crate::body::Body;
+use crate::rules::has_left;
+use crate::turn::{Turn, take_turn};
+use crate::{Halt, State, Step};
+use qm_check::Ready;
+use qm_denot::{Amps, Wire};
+use qm_proto::Cause;
+use std::alloc::{AllocError, Global};
+use std::marker::Model;
+
+/// A machine: ready programs, the schedule so far, the halt if there is one, and the state.
+///
+/// Its state is the model's replay of the schedule, which is legal; its store stands for the circuit of that replay, and the live wires
+/// are exactly those that have a place in it; a halt stands at the schedule's end.
+#[derive(Drop)]
+pub struct Machine<A: Amps> {
+    ready: Ready,
+    schedule: Vec<u32>,
+    halted: Option<Halt>,
+    body: Body<A>,
+}
+
+impl<A: Amps> Model for Machine<A> {
+    ghost use Rattle.std.specs.Prelude.{vec_capacity};
+    ghost use Rattle.qm_machine.specs.Keeps.{MachineView, IsKept};
+    ghost use Rattle.qm_machine.specs.Views.{facts};
+
+    ghost Value = { MachineView A };
+
+    ghost view = { λ m. record { programs = m.ready; schedule = m.schedule.items; halted = m.halted; amps = m.body.amps } };
+
+    ghost invariant = { λ m. IsKept m.ready m.schedule.items m.halted (facts A.store m.body) (vec_capacity m.schedule) };
+}
+
+impl<A: Amps> Machine<A> {
+    /// A machine before its first event, over a store that stands for the empty circuit. All memory is taken here; `AllocError` comes
+    /// from the allocator alone.
+    pub fn start(alloc: Global, ready: Ready, amps: A) -> Result<Machine<A>, AllocError>
+        requires built { IsBuilt ready }
+        requires stands { StandsFor (A.store amps) [] }
+        requires live { (A.store amps).live ≡ [] }
+        requires room { capacity_of ready ≤ (A.store amps).capacity }
+        ensures { IfOk result (λ m. m ≡ record { programs = ready; schedule = []; halted = None; amps = amps }) }
+    {
+        let body = Body::start(alloc, &ready, amps)?;
+        let schedule = Vec::with_capacity(alloc, ready.events() as usize)?;
+        Ok(Machine {
+            ready,
+            schedule,
+            halted: None,
+            body,
+        })
+    }
+
+    /// Keeps a halt of this rank at the schedule's end.
+    fn halt(&mut self, rank: u32, cause: Cause) -> Step
+        requires { HaltsAt self.old.programs self.old.schedule (halt_of rank self.old.schedule cause) }
+        ensures answer { result ≡ Step.Halted }
+        ensures new { self.new ≡ record self.old { halted = Some (halt_of rank self.old.schedule cause) } }
+    {
+        self.halted = Some(Halt {
+            rank,
+            turns: self.schedule.len() as u64,
+            cause,
+        });
+        Step::Halted
+    }
+
+    /// One event of a rank, if it may happen.
+    ///
+    /// The answers are tried in this order. `Halted` where the machine was halted before. `Ended` where the rank has no event left.
+    /// `Blocked` where its next event is not enabled and the state is not stuck. `Halted`, which is new then and stays, where the state is
+    /// stuck or the event is refused. Else the event is done, and the schedule has the rank at its end. Every other answer leaves the
+    /// schedule and the state as they were. No step takes memory.
+    pub fn step(&mut self, rank: u32) -> Step
+        requires able { A.able }
+        requires known { rank < length self.old.programs.ranks }
+        ensures programs { self.new.programs ≡ self.old.programs }
+        ensures step { StepIs A.store self.old rank result self.new }
+    {
+        if self.halted.is_some() {
+            return Step::Halted;
+        }
+        match take_turn(self.ready.input(), &mut self.body, rank as u16) {
+            Turn::Ended => Step::Ended,
+            Turn::Blocked { why } => Step::Blocked { why },
+            Turn::Stuck { lowest } => self.halt(u32::from(lowest), Cause::Stuck),
+            Turn::Refused { cause } => self.halt(rank, cause),
+            Turn::Did { event } => {
+                self.schedule.push_reserved(rank);
+                Step::Did { event }
+            }
+        }
+    }
+
+    /// Whether some rank has an event left.
+    fn has_more(&self) -> bool
+        ensures some { result ≡ true → HasLeft self.now.programs (state_of self.now).tables }
+        ensures none { result ≡ false → AllEnded self.now.programs (state_of self.now).tables }
+    {
+        let input = self.ready.input();
+        for rank in 0..input.ranks() {
+            if has_left(input, &self.body, rank) {
+                return true;
+            }
+        }
+        false
+    }
+
+    /// How far the machine is: `Halted` where a step halted it, `AllEnded` where no rank has an event left, else `Running`.
+    pub fn state(&self) -> State
+        ensures state { StateIs self.now result }
+        ensures kept { Keeps A.store self.now }
+    {
+        match self.halted {
+            Some(halt) => State::Halted { halt },
+            None if self.has_more() => State::Running,
+            None => State::AllEnded,
+        }
+    }
+
+    /// The schedule so far: one rank for each event, in their order. What every machine keeps is told here.
+    pub fn schedule(&self) -> &[u32]
+        ensures value { result.now ≡ self.now.schedule }
+        ensures kept { Keeps A.store self.now }
+    {
+        &self.schedule
+    }
+
+    /// The store, which stands for the circuit of the schedule's replay.
+    pub fn amps(&self) -> &A
+        ensures { result.now ≡ self.now.amps }
+    {
+        self.body.amps()
+    }
+
+    /// The programs.
+    pub fn ready(&self) -> &Ready
+        ensures { result.now ≡ self.now.programs }
+    {
+        &self.ready
+    }
+
+    /// A rank's classical bits as a number, bit 0 the lowest.
+    pub fn bits(&self, rank: u32) -> u32
+        requires { rank < length self.now.programs.ranks }
+        ensures { result ≡ number_of_bits ((state_of self.now).tables.parts rank).bits }
+    {
+        self.body.bits(rank as u16)
+    }
+
+    /// The wire in a rank's slot. `None` exactly where it is empty.
+    pub fn slot(&self, rank: u32, q: u8) -> Option<Wire>
+        requires { rank < length self.now.programs.ranks }
+        ensures { result ≡ (state_of self.now).tables.slots rank q }
+    {
+        self.body.slot(rank as u16, q)
+    }
+
+    /// How many halves a rank holds, at most the size of its buffer.
+    pub fn halves(&self, rank: u32) -> u32
+        requires { rank < length self.now.programs.ranks }
+        ensures value { result ≡ halves (state_of self.now).tables rank }
+        ensures few { result ≤ (rank_of self.now.programs rank).buffer }
+    {
+        self.body.halves(rank as u16) as u32
+    }
+
+    /// How many letters the circuit of the replay has.
+    pub fn letters(&self) -> u64
+        ensures { result ≡ length (state_of self.now).circuit }
+    {
+        self.body.letters()
+    }
+
+    /// How many of them are corrections: a `Flip`, or the `Phase` of a sign.
+    pub fn paulis(&self) -> u64
+        ensures { result ≡ count_by is_pauli (state_of self.now).circuit }
+    {
+        self.body.paulis()
+    }
+}

@@ -1,0 +1,43 @@
+-- A schedule with one entry more, and what holds after each legal schedule
+use Rattle.std.proofs.Common.{◌≡◌, ℕ, ◌+◌, List, [], ◌∷◌, ◌++◌, length, fold, subst, arith}
+use Rattle.std.proofs.lemmas.List.Sums.{fold_push}
+use Rattle.qm_instr.specs.Programs.{Programs}
+use Rattle.qm_proto.specs.Model.State.{State}
+use Rattle.qm_proto.specs.Model.Runs.{next}
+use Rattle.qm_proto.specs.Model.Schedules.{state_at_start, replay, MayStep, IsLegal, IsLegalFrom}
+
+pub replay-push : (p : Programs) (rs : List ℕ) (r : ℕ) → replay p (rs ++ r ∷ []) ≡ next p (replay p rs) r
+unfolding replay
+replay-push p rs r = fold_push (next p) (state_at_start p) rs r
+
+legal_from-push : (p : Programs) (s : State) (rs : List ℕ) (r : ℕ)
+    → IsLegalFrom p s rs → MayStep p (fold (next p) s rs) r → IsLegalFrom p s (rs ++ r ∷ [])
+legal_from-push p s [] r legal may = (may, tt)
+legal_from-push p s (q ∷ rs) r legal may = (legal.0, legal_from-push p (next p s q) rs r legal.1 may)
+
+pub legal-push : (p : Programs) (rs : List ℕ) (r : ℕ) → IsLegal p rs → MayStep p (replay p rs) r → IsLegal p (rs ++ r ∷ [])
+unfolding replay IsLegal
+legal-push p rs r legal may = legal_from-push p (state_at_start p) rs r legal may
+
+-- what is so of a state, and stays so at each step, is so after legal steps; n counts the steps
+legal_from_counted : (p : Programs) (P : ℕ → State → Type 0)
+    → ((n : ℕ) (s : State) (r : ℕ) → P n s → MayStep p s r → P (n + 1) (next p s r))
+    → (n : ℕ) (s : State) (rs : List ℕ) → P n s → IsLegalFrom p s rs → P (n + length rs) (fold (next p) s rs)
+legal_from_counted p P step n s [] h legal = let e : n ≡ n + 0 = omega arith in subst (λ k. P k s) e h
+legal_from_counted p P step n s (r ∷ rs) h legal =
+    let e : (n + 1) + length rs ≡ n + length (r ∷ rs) = omega arith in
+    subst (λ k. P k (fold (next p) (next p s r) rs)) e (legal_from_counted p P step (n + 1) (next p s r) rs (step n s r h legal.0) legal.1)
+
+-- what is so at the start, and stays so at each step, is so after each legal schedule
+pub over_legal_counted : (p : Programs) (P : ℕ → State → Type 0) → P 0 (state_at_start p)
+    → ((n : ℕ) (s : State) (r : ℕ) → P n s → MayStep p s r → P (n + 1) (next p s r))
+    → (rs : List ℕ) → IsLegal p rs → P (length rs) (replay p rs)
+unfolding replay IsLegal
+over_legal_counted p P start step rs legal =
+    let e : 0 + length rs ≡ length rs = omega arith in
+    subst (λ k. P k (fold (next p) (state_at_start p) rs)) e (legal_from_counted p P step 0 (state_at_start p) rs start legal)
+
+pub over_legal : (p : Programs) (P : State → Type 0) → P (state_at_start p)
+    → ((s : State) (r : ℕ) → P s → MayStep p s r → P (next p s r))
+    → (rs : List ℕ) → IsLegal p rs → P (replay p rs)
+over_legal p P start step rs legal = over_legal_counted p (λ n s. P s) start (λ n s r h may. step s r h may) rs legal

@@ -1,0 +1,127 @@
+-- When a rank may do an act: what must be there for it, and how much room it takes
+use Rattle.std.specs.Prelude.{◌≡◌, ◌≢◌, ℕ, ◌+◌, ◌-◌, ◌<◌, ◌≤◌, ◌^◌, List, [], ◌∷◌, None, length}
+use Rattle.qm_denot.specs.declared.Wire.{Wire}
+use Rattle.qm_denot.specs.declared.Letter.{Letter}
+use Rattle.qm_denot.specs.declared.Letter.TheVariants.{Phase, Flip, Had, Cx, Cz, Pair, Keep, Take, Rename}
+use Rattle.qm_instr.specs.declared.Lane.{Lane}
+use Rattle.qm_proto.specs.declared.Parcel.{Parcel}
+use Rattle.qm_proto.specs.Model.State.{Tables, far_made, near_made, near_last, front}
+use Rattle.qm_proto.specs.Model.Acts.{Act, Fresh, Twin, Apply, SlotOut, NearOut, FarOut, Settle, Posts, Fills, Receives, OwnUsed, ProtocolUsed, FirstKept, BitSet, done}
+use Rattle.qm_proto.specs.Model.Rows.{Check, Possible, Zero, Equal, Fits}
+use Rattle.qm_proto.specs.Model.Places.{Place, InSlot, NearOf, FarOf, IsPlaced, IsOnlyAt}
+
+-- how many ranks there are, how many wires more a store has room for, how many parcels a lane may have, and how many letters more can be
+-- counted
+pub record Limits : Type 0 where
+  pub ranks : ℕ
+  pub wires : ℕ
+  pub parcels : Lane → ℕ
+  pub letters : ℕ
+
+-- there is a last parcel, and it has no bits yet
+abbrev pub IsFillable : List Parcel → Type 0
+IsFillable [] = ⊥
+IsFillable (x ∷ []) = x.bits ≡ None
+IsFillable (x ∷ y ∷ xs) = IsFillable (y ∷ xs)
+
+-- both wires have places, and they differ
+pub record AreTwo (t : Tables) (c v : Wire) : Type 0 where
+  pub first : IsPlaced t c
+  pub second : IsPlaced t v
+  pub differ : c ≢ v
+
+-- the letter moves no wire, and its operands have places and differ
+abbrev pub MayLetter : Letter → Tables → Type 0
+MayLetter (Phase k w) t = (k < 8) × IsPlaced t w
+MayLetter (Flip w) t = IsPlaced t w
+MayLetter (Had w) t = IsPlaced t w
+MayLetter (Cx c v) t = AreTwo t c v
+MayLetter (Cz c v) t = AreTwo t c v
+MayLetter (Pair a b) t = ⊥
+MayLetter (Keep w m) t = IsPlaced t w
+MayLetter (Take w m) t = ⊥
+MayLetter (Rename a b) t = ⊥
+
+-- slot q of rank r is empty, the wire that the rank's count names has no place, and there is room for it
+pub record MayFresh (s : Limits) (r q : ℕ) (t : Tables) : Type 0 where
+  pub slot : q < 16
+  pub empty : t.slots r q ≡ None
+  pub absent : ¬ IsPlaced t (far_made t r)
+  pub room : 1 ≤ s.wires
+  pub countable : (t.parts r).made + 1 < 2 ^ 32
+
+-- the rank has no near half and the receiver fewer than 8 far ones, the new halves have no places, and there is room for both
+pub record MayTwin (s : Limits) (r to : ℕ) (t : Tables) : Type 0 where
+  pub known : to < s.ranks
+  pub alone : t.near r ≡ []
+  pub few : length (t.far to) < 8
+  pub near_absent : ¬ IsPlaced t (near_made t r)
+  pub far_absent : ¬ IsPlaced t (far_made t r)
+  pub room : 2 ≤ s.wires
+  pub countable : (t.parts r).made + 1 < 2 ^ 32
+  pub letter : 1 ≤ s.letters
+
+-- a wire is in slot q of rank r, and nowhere else
+pub record MaySlotOut (s : Limits) (r q : ℕ) (t : Tables) : Type 0 where
+  pub slot : q < 16
+  pub wire : Wire
+  pub only : IsOnlyAt t wire (InSlot r q)
+  pub letter : 1 ≤ s.letters
+
+-- the half is there and nowhere else
+pub record MayHalfOut (s : Limits) (w : Wire) (p : Place) (t : Tables) : Type 0 where
+  pub only : IsOnlyAt t w p
+  pub letter : 1 ≤ s.letters
+
+-- f is a far half of rank r and nowhere else, and slot q is empty
+pub record MaySettle (r : ℕ) (f : Wire) (q : ℕ) (t : Tables) : Type 0 where
+  pub slot : q < 16
+  pub only : IsOnlyAt t f (FarOf r)
+  pub empty : t.slots r q ≡ None
+
+-- rank r may do the act
+abbrev pub MayDo : Limits → ℕ → Act → Tables → Type 0
+MayDo s r (Fresh q) t = MayFresh s r q t
+MayDo s r (Twin to) t = MayTwin s r to t
+MayDo s r (Apply l) t = MayLetter l t × (1 ≤ s.letters)
+MayDo s r (SlotOut q m) t = MaySlotOut s r q t
+MayDo s r (NearOut m) t = MayHalfOut s (near_last t r) (NearOf r) t
+MayDo s r (FarOut f m) t = MayHalfOut s f (FarOf r) t
+MayDo s r (Settle f q) t = MaySettle r f q t
+MayDo s r (Posts a x) t = length (t.lanes a) < s.parcels a
+MayDo s r (Fills a b) t = IsFillable (t.lanes a)
+MayDo s r (Receives a) t = (front t a).bits ≢ None
+MayDo s r OwnUsed t = 0 < length (t.parts r).own
+MayDo s r ProtocolUsed t = 0 < length (t.parts r).protocol
+MayDo s r (FirstKept m) t = Unit {0}
+MayDo s r (BitSet b v) t = b < 32
+
+-- what an act leaves of the limits
+abbrev pub limits_after : Act → Limits → Limits
+limits_after (Fresh q) s = record s { wires = s.wires - 1 }
+limits_after (Twin to) s = record s { wires = s.wires - 2; letters = s.letters - 1 }
+limits_after (Apply l) s = record s { letters = s.letters - 1 }
+limits_after (SlotOut q m) s = record s { wires = s.wires + 1; letters = s.letters - 1 }
+limits_after (NearOut m) s = record s { wires = s.wires + 1; letters = s.letters - 1 }
+limits_after (FarOut f m) s = record s { wires = s.wires + 1; letters = s.letters - 1 }
+limits_after _ s = s
+
+abbrev pub limits_after_all : List Act → Limits → Limits
+limits_after_all [] s = s
+limits_after_all (a ∷ acts) s = limits_after_all acts (limits_after a s)
+
+-- rank r may do the acts, one after another
+abbrev pub AllMay : Limits → ℕ → List Act → Tables → Type 0
+AllMay s r [] t = Unit {0}
+AllMay s r (a ∷ acts) t = MayDo s r a t × AllMay (limits_after a s) r acts (done r a t)
+
+-- the wires of a test have places, and differ
+abbrev pub MayCheck : Tables → Check → Type 0
+MayCheck t (Possible w m) = IsPlaced t w
+MayCheck t (Zero w) = IsPlaced t w
+MayCheck t (Equal w v) = AreTwo t w v
+MayCheck t (Fits w) = IsPlaced t w
+
+abbrev pub AllMayCheck : Tables → List Check → Type 0
+AllMayCheck t [] = Unit {0}
+AllMayCheck t (k ∷ ks) = MayCheck t k × AllMayCheck t ks
