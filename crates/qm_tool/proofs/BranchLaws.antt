@@ -1,5 +1,5 @@
 -- Branches that go on over slots and come back, and the texts that are written of them
-use Rattle.std.proofs.Common.{◌≡◌, ℕ, suc, ◌+◌, ◌-◌, ◌<◌, ◌≤◌, Bool, true, List, [], ◌∷◌, ◌++◌, length, take, drop, get_or, map, All, Contains, refl, sym, ◌∙◌, ap, subst, arith, add-one, append_assoc, append-nil, length-append, drop-cons, Decides, ℤ, pos, negsuc, codes, decimal}
+use Rattle.std.proofs.Common.{◌≡◌, ℕ, suc, ◌+◌, ◌-◌, ◌<◌, ◌≤◌, Bool, true, false, List, [], ◌∷◌, ◌++◌, length, take, drop, get_or, map, All, Contains, refl, sym, ◌∙◌, ap, subst, arith, add-one, append_assoc, append-nil, length-append, drop-cons, Decides, ℤ, pos, negsuc, codes, decimal}
 use Rattle.std.proofs.lemmas.Bool.Decides.{Decides-and, Decides-int_eq, Decides-like, same_from_decides}
 use Rattle.std.proofs.lemmas.Int.{to_z-of_z}
 use Rattle.std.proofs.lemmas.List.{take-append-drop, take_more}
@@ -20,7 +20,6 @@ use Rattle.qm_io.proofs.EndLemmas.{Took-join, Took-broke, Broke-more}
 use Rattle.qm_tool.specs.declared.full_slot.FullSlot.{FullSlot}
 use Rattle.qm_tool.specs.declared.state_text.Branch.{Branch}
 use Rattle.qm_tool.specs.StateText.{is_zero_number, slots_text, bits_text, branch_line, branch_lines}
-use Rattle.qm_tool.specs.Runs.{wire_made}
 use Rattle.qm_tool.specs.Branches.{HasRoom, Becomes, GoesOn, components_text, without_last}
 
 -- ---- the number 0
@@ -47,27 +46,32 @@ pub component-passed : (x : ℤ) → IsInRange x → to_z w128 (of_z w128 x) ≡
 component-passed (pos n) h = to_z-of_z w128 (pos n) (record { sfits = h })
 component-passed (negsuc n) h = to_z-of_z w128 (negsuc n) (record { sfits = omega arith })
 
+-- what is written for a full slot
+abbrev slot_text : FullSlot → List ℕ
+slot_text s = codes " " ++ decimal s.rank ++ codes "." ++ decimal s.slot
+
 slots_text-append : (ss ts : List FullSlot) → slots_text (ss ++ ts) ≡ slots_text ss ++ slots_text ts
 slots_text-append [] ts = refl
-slots_text-append (s ∷ ss) ts = ap (λ x. codes " 0." ++ decimal s.slot ++ x) (slots_text-append ss ts) ∙ sym (append_assoc (codes " 0." ++ decimal s.slot) (slots_text ss) (slots_text ts))
+slots_text-append (s ∷ ss) ts = ap (λ x. slot_text s ++ x) (slots_text-append ss ts) ∙ sym (append_assoc (slot_text s) (slots_text ss) (slots_text ts))
 
 -- one more slot is written
 pub Took-slot : (u v w : SinkView) (ss : List FullSlot) (i : ℕ) (d : FullSlot) → i < length ss → Took u v (slots_text (take i ss))
-    → Took v w (codes " 0." ++ decimal (get_or ss i d).slot) → Took u w (slots_text (take (i + 1) ss))
+    → Took v w (slot_text (get_or ss i d)) → Took u w (slots_text (take (i + 1) ss))
 Took-slot u v w ss i d h s t =
-    let text = codes " 0." ++ decimal (get_or ss i d).slot in
+    let text = slot_text (get_or ss i d) in
     let e : slots_text (take (i + 1) ss) ≡ slots_text (take i ss) ++ text =
     ap slots_text (take_more ss i d h) ∙ slots_text-append (take i ss) (get_or ss i d ∷ []) ∙ ap (λ x. slots_text (take i ss) ++ x) (append-nil text) in
     subst (Took u w) (sym e) (Took-join u v w _ _ s t)
 
 -- the sink failed at one more slot
 pub Broke-slot : (u v w : SinkView) (ss : List FullSlot) (i : ℕ) (d : FullSlot) → i < length ss → Took u v (slots_text (take i ss))
-    → Broke v w (codes " 0." ++ decimal (get_or ss i d).slot) → Broke u w (slots_text ss)
+    → Broke v w (slot_text (get_or ss i d)) → Broke u w (slots_text ss)
 Broke-slot u v w ss i d h s t =
-    let text = codes " 0." ++ decimal (get_or ss i d).slot in
-    let e : slots_text ss ≡ slots_text (take i ss) ++ (text ++ slots_text (drop (suc i) ss)) =
+    let text = slot_text (get_or ss i d) in
+    let rest = slots_text (drop (suc i) ss) in
+    let e : slots_text ss ≡ slots_text (take i ss) ++ (text ++ rest) =
     ap slots_text (sym (take-append-drop i ss) ∙ ap (λ (ts : List FullSlot). take i ss ++ ts) (drop-cons ss i d h)) ∙ slots_text-append (take i ss) (get_or ss i d ∷ drop (suc i) ss) in
-    Took-broke u v w (slots_text (take i ss)) text (slots_text (drop (suc i) ss)) (slots_text ss) s t (e ∙ sym (append_assoc (slots_text (take i ss)) text (slots_text (drop (suc i) ss))))
+    Took-broke u v w (slots_text (take i ss)) text rest (slots_text ss) s t (e ∙ sym (append_assoc (slots_text (take i ss)) text rest))
 
 -- ---- the wires of a branch that goes on
 -- the wires of a list and one more
@@ -143,7 +147,7 @@ rest_of ss = take (length ss - 1) (drop 1 ss)
 
 -- a slot where none stands
 abbrev some_slot : FullSlot
-some_slot = record { slot = 0; wire = wire_made 0 }
+some_slot = record { rank = 0; slot = 0; wire = record { rank = 0; made = 0; near = false } }
 
 first_and_rest : (ss : List FullSlot) (d : FullSlot) → 1 ≤ length ss → ss ≡ get_or ss 0 d ∷ rest_of ss
 first_and_rest [] d h = absurd (omega arith)

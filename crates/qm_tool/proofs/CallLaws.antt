@@ -13,10 +13,11 @@ use Rattle.qm_tool.specs.declared.answer.Answer.{Answer}
 use Rattle.qm_tool.specs.declared.answer.Answer.TheVariants as answer
 use Rattle.qm_tool.specs.declared.status.Status.{Status}
 use Rattle.qm_tool.specs.declared.status.Status.TheVariants as status
-use Rattle.qm_tool.specs.Due.{is_plain, EndsWith, StopsWith, RefusedWith, DueOf, Due, NoCommand, TooMuch, Whole}
+use Rattle.qm_tool.specs.Due.{is_plain, EndsWith, IsOneCircuit, StopsWith, RefusedWith, DueOf, Due, NoCommand, TooMuch, Whole}
 use Rattle.qm_tool.specs.Calls.{Comes, Unasked, Failed, More, Text, Ends, Whole as Written, Broken, Ran, Starved, Done, Wrote}
 use Rattle.qm_tool.specs.Answers.{status_of, text_of, AnswersSource, Concludes}
 use Rattle.qm_tool.proofs.AnswerLaws.{Due-one}
+use Rattle.qm_tool.proofs.OneCircuits.{EndsWith-one_circuit}
 
 -- ---- the words
 -- the one word of a list of one
@@ -35,6 +36,11 @@ all_of_it text got (Some r) e s = let k : text ≡ got ++ r = cc in k ∙ ap (λ
 longer_than : (text got : List ℕ) (rest : Option (List ℕ)) → Some text ≡ led_by got rest → length got ≤ length text
 longer_than text got None e = cc
 longer_than text got (Some r) e = let k : text ≡ got ++ r = cc in omega (arith, ap length k, length-append got r)
+
+-- where what was written is the state text of an end, it is that of one circuit
+pub Wrote-one_circuit : (from from' : SourceView) (to to' : SinkView) → Wrote EndsWith from from' to to' → Wrote IsOneCircuit from from' to to'
+Wrote-one_circuit from from' to to' w =
+    record { text = w.text; bytes = w.bytes; gave = w.gave; says = EndsWith-one_circuit w.text w.bytes w.says; took = w.took }
 
 module _ (words : List (List ℕ)) (from from' : SourceView) where
   -- what is due for what came is due for all that the source had

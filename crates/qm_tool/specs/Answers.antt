@@ -1,23 +1,32 @@
 -- What a command answers: its status, its text, what must hold before it is written, and what it is due for
-use Rattle.std.specs.Prelude.{◌≡◌, ℕ, List, length, codes, Result, Ok, Err, Vec}
+use Rattle.std.specs.Prelude.{◌≡◌, ℕ, Bool, List, length, codes, Result, Ok, Err, Vec}
 use Rattle.std.specs.declared.alloc.Global.{Global}
 use Rattle.std.specs.declared.alloc.AllocError.{AllocError}
 use Rattle.qm_io.specs.Ends.{SinkView, SourceView}
-use Rattle.qm_denot.specs.Stores.{Store}
+use Rattle.qm_denot.specs.Stores.{Store, StandsFor}
+use Rattle.qm_instr.specs.Programs.{Programs}
+use Rattle.qm_proto.specs.Model.Schedules.{replay, AllEnded, IsFirst}
+use Rattle.qm_machine.specs.declared.Halt.{Halt}
+use Rattle.qm_machine.specs.Keeps.{MachineView, state_of}
 use Rattle.qm_tool.specs.declared.answer.Answer.{Answer}
 use Rattle.qm_tool.specs.declared.answer.Answer.TheVariants as answer
 use Rattle.qm_tool.specs.declared.full_slot.FullSlot.{FullSlot}
-use Rattle.qm_tool.specs.declared.play.Rank.{Rank}
 use Rattle.qm_tool.specs.declared.state_text.Branch.{Branch}
 use Rattle.qm_tool.specs.declared.status.Status.{Status}
 use Rattle.qm_tool.specs.declared.status.Status.TheVariants as status
-use Rattle.qm_tool.specs.Branches.{IsEmpty, HasRoom}
-use Rattle.qm_tool.specs.Programs.{Listing}
-use Rattle.qm_tool.specs.Ranks.{AreLive}
-use Rattle.qm_tool.specs.Runs.{RunsThrough, StopsAfter}
-use Rattle.qm_tool.specs.StateText.{state_lines, IsStateText}
-use Rattle.qm_tool.specs.Due.{DueOf, refusal_line, stopped_line}
+use Rattle.qm_tool.specs.Branches.{IsEmpty, HasRoom, AreLive}
+use Rattle.qm_tool.specs.StateText.{full_slots, state_lines}
+use Rattle.qm_tool.specs.Due.{DueOf, StopsAt, refusal_line, stopped_line}
 use Rattle.qm_tool.specs.Calls.{Comes, Ends}
+use Rattle.qm_tool.specs.Plays.{PlaysFirst}
+
+-- the classical bits of a machine's ranks
+abbrev pub bits_in : {A : Type 0} → MachineView A → ℕ → List Bool
+bits_in m r = ((state_of m).tables.parts r).bits
+
+-- the state text of a machine over these full slots
+abbrev pub machine_text : {A : Type 0} → (A → Store) → MachineView A → List FullSlot → List ℕ
+machine_text store m slots = state_lines m.programs (bits_in m) slots (store m.amps).value (store m.amps).exponent
 
 -- the status of a call that wrote the answer
 abbrev pub status_of : {A : Type 0} → Answer A → Status
@@ -25,8 +34,8 @@ status_of answer.Usage = status.Usage
 status_of answer.ReadFault = status.ReadFault
 status_of answer.TooLong = status.TooLong
 status_of (answer.Refused refusal) = status.Refused
-status_of (answer.Stopped turns) = status.Stopped
-status_of (answer.Ended rank slots branch) = status.Ok
+status_of (answer.Stopped halt) = status.Stopped
+status_of (answer.Ended machine slots branch) = status.Ok
 
 -- the answer's text
 abbrev pub text_of : {A : Type 0} → (A → Store) → Answer A → List ℕ
@@ -34,8 +43,8 @@ text_of store answer.Usage = codes "usage\n"
 text_of store answer.ReadFault = codes "read fault\n"
 text_of store answer.TooLong = codes "too long\n"
 text_of store (answer.Refused refusal) = refusal_line refusal
-text_of store (answer.Stopped turns) = stopped_line turns
-text_of store (answer.Ended rank slots branch) = state_lines slots.items (store rank.amps).value (store rank.amps).exponent
+text_of store (answer.Stopped halt) = stopped_line halt.rank halt.turns halt.cause
+text_of store (answer.Ended machine slots branch) = machine_text store machine slots.items
 
 -- the slots of a state text hold different live wires, and the empty branch has room for them
 abbrev pub MayPut : {A : Type 0} → (A → Store) → Answer A → Type 0
@@ -43,13 +52,13 @@ MayPut store answer.Usage = Unit {0}
 MayPut store answer.ReadFault = Unit {0}
 MayPut store answer.TooLong = Unit {0}
 MayPut store (answer.Refused refusal) = Unit {0}
-MayPut store (answer.Stopped turns) = Unit {0}
-MayPut store (answer.Ended rank slots branch) = AreLive (store rank.amps).live slots.items × IsEmpty branch × HasRoom branch (length slots.items)
+MayPut store (answer.Stopped halt) = Unit {0}
+MayPut store (answer.Ended machine slots branch) = AreLive (store machine.amps).live slots.items × IsEmpty branch × HasRoom branch (length slots.items)
 
--- the answer is the program's run: it ended, with its state text, or it stopped
-pub data IsRun {A : Type 0} (store : A → Store) (l : Listing) : Answer A → Type 0 where
-  RunsOut : (rank : Rank A) (slots : Vec FullSlot Global) (branch : Branch) → RunsThrough l.instructions → IsStateText l (text_of store (answer.Ended rank slots branch)) → IsRun store l (answer.Ended rank slots branch)
-  Stops : (turns : ℕ) → StopsAfter l.instructions turns → IsRun store l (answer.Stopped turns)
+-- the answer is the programs' run: it ended, with its full slots, or it stopped
+pub data IsRun {A : Type 0} (store : A → Store) (p : Programs) : Answer A → Type 0 where
+  RunsOut : (machine : MachineView A) (slots : Vec FullSlot Global) (branch : Branch) → PlaysFirst p machine → StandsFor (store machine.amps) (replay p machine.schedule).circuit → AllEnded p (replay p machine.schedule).tables → slots.items ≡ full_slots p (replay p machine.schedule).tables.slots → IsRun store p (answer.Ended machine slots branch)
+  Stops : (schedule : List ℕ) (halt : Halt) → IsFirst p schedule → halt.turns ≡ length schedule → StopsAt p (replay p schedule) halt.rank halt.cause → IsRun store p (answer.Stopped halt)
 
 -- the answer is due for the text
 pub record AnswersText {A : Type 0} (store : A → Store) (text : List ℕ) (a : Answer A) : Type 0 where

@@ -37,3 +37,8 @@ pub record GoesOn (live ones : List Wire) (slots : List FullSlot) : Type 0 where
 abbrev pub components_text : Number → List ℕ
 components_text z =
     (codes " " ++ signed_decimal z.a) ++ (codes " " ++ signed_decimal z.b) ++ (codes " " ++ signed_decimal z.c) ++ (codes " " ++ signed_decimal z.d)
+
+-- the slots hold different live wires
+pub record AreLive (live : List Wire) (slots : List FullSlot) : Type 0 where
+  pub live_all : All (Contains live) (map (λ s. s.wire) slots)
+  pub distinct : Distinct (map (λ s. s.wire) slots)

@@ -1,15 +1,7 @@
 pub mod Statuses
-pub mod Tokens
-pub mod Programs
-pub mod Reading
-pub mod Runs
 pub mod StateText
-pub mod Ranks
 pub mod Branches
-pub mod Played
 pub mod Due
 pub mod Calls
-pub mod Cursors
-pub mod ReadingSteps
-pub mod FilledSlots
 pub mod Answers
+pub mod Plays

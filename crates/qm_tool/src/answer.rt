@@ -1,23 +1,27 @@
 //! What a command answers. All memory is taken before the first byte is written.
-ghost use Rattle.std.specs.Prelude.{◌≡◌, ◌≤◌, ◌++◌, ℕ, [], IfOk, Option};
-ghost use Rattle.qm_denot.specs.declared.Wire.{Wire};
+ghost use Rattle.std.specs.Prelude.{◌≡◌, ◌<◌, ◌≤◌, ◌++◌, [], length, IfOk, OnOk};
 ghost use Rattle.qm_denot.specs.Stores.{StandsFor};
+ghost use Rattle.qm_instr.specs.Programs.{rank_of};
+ghost use Rattle.qm_check.specs.Checks.{capacity_of};
 ghost use Rattle.qm_io.specs.Ends.{Puts};
+ghost use Rattle.qm_machine.specs.Built.{IsBuilt};
+ghost use Rattle.qm_machine.specs.Keeps.{Keeps, state_of};
+ghost use Rattle.qm_proto.specs.Model.Schedules.{AllEnded};
 ghost use Rattle.qm_tool.specs.Answers.{status_of, text_of, MayPut, IsRun};
-ghost use Rattle.qm_tool.specs.Due.{refusal_line, stopped_line};
-ghost use Rattle.qm_tool.specs.Programs.{listing_of};
-ghost use Rattle.qm_tool.specs.Ranks.{IsAt, MayRun, SameSlots};
-ghost use Rattle.qm_tool.specs.StateText.{full_slots};
+ghost use Rattle.qm_tool.specs.Due.{refusal_line, stopped_line, cause_name};
+ghost use Rattle.qm_tool.specs.Plays.{PlaysFirst};
+ghost use Rattle.qm_tool.specs.StateText.{full_slots, rank_slots};
 
 use crate::full_slot::FullSlot;
-use crate::play::{Played, Rank, SLOTS, play};
-use crate::program::Program;
-use crate::refusal::Refusal;
+use crate::play::play;
 use crate::state_text::{Branch, put_number, put_state};
 use crate::status::Status;
 use itoa::Integer;
-use qm_denot::{Amps, Wire};
+use qm_check::Ready;
+use qm_denot::Amps;
 use qm_io::{Failed, Sink, put_bytes};
+use qm_machine::{Cause, Halt, Machine, State};
+use qm_reader::Refusal;
 use std::alloc::{AllocError, Global};
 
 /// What a command answers.
@@ -30,11 +34,11 @@ pub(crate) enum Answer<A: Amps> {
         refusal: Refusal,
     },
     Stopped {
-        turns: u64,
+        halt: Halt,
     },
-    /// A rank at its program's end, its full slots, and the memory that writing its state text needs.
+    /// A machine all of whose ranks have ended, its full slots, and the memory that writing its state text needs.
     Ended {
-        rank: Rank<A>,
+        machine: Machine<A>,
         slots: Vec<FullSlot>,
         branch: Branch,
     },
@@ -56,57 +60,67 @@ impl<A: Amps> Answer<A> {
     }
 }
 
-/// The full ones of the first slots, in their order. `AllocError` comes from the allocator alone.
-fn full_slots(
-    alloc: Global,
-    qubits: u8,
-    slots: &[Option<Wire>; SLOTS],
-) -> Result<Vec<FullSlot>, AllocError>
-    requires { qubits ≤ 16 }
-    ensures { IfOk result (λ full. (state : ℕ → Option Wire) → SameSlots slots.now state → full.items ≡ full_slots qubits state) }
+/// Appends the full slots of a rank. `AllocError` comes from the allocator alone.
+fn push_slots<A: Amps>(
+    full: &mut Vec<FullSlot>,
+    machine: &Machine<A>,
+    rank: u16,
+) -> Result<(), AllocError>
+    requires { rank < length machine.now.programs.ranks }
+    ensures { OnOk result (full.new.items ≡ full.old.items ++ rank_slots rank (rank_of machine.now.programs rank).qubits ((state_of machine.now).tables.slots rank)) }
+{
+    for slot in 0..machine.ready().input().qubits(rank) {
+        if let Some(wire) = machine.slot(u32::from(rank), slot) {
+            full.push(FullSlot { rank, slot, wire })?;
+        }
+    }
+    Ok(())
+}
+
+/// The full slots of a machine, by rank, then slot. `AllocError` comes from the allocator alone.
+fn full_slots<A: Amps>(alloc: Global, machine: &Machine<A>) -> Result<Vec<FullSlot>, AllocError>
+    ensures { IfOk result (λ full. full.items ≡ full_slots machine.now.programs (state_of machine.now).tables.slots) }
 {
     let mut full = Vec::new(alloc);
-    for slot in 0..qubits {
-        if let Some(wire) = slots[usize::from(slot)] {
-            full.push(FullSlot { slot, wire })?;
-        }
+    for rank in 0..machine.ready().input().ranks() {
+        push_slots(&mut full, machine, rank)?;
     }
     Ok(full)
 }
 
-/// The answer of a rank at its program's end. `AllocError` comes from the allocator alone.
-fn ended<A: Amps>(alloc: Global, program: &Program, rank: Rank<A>) -> Result<Answer<A>, AllocError>
-    requires may { MayRun (listing_of program.now) }
-    requires end { IsAt program.now.qubits rank.made rank.slots (A.store rank.amps) program.now.instructions.items }
-    ensures run { IfOk result (IsRun A.store (listing_of program.now)) }
+/// The answer of a machine all of whose ranks have ended. `AllocError` comes from the allocator alone.
+fn ended<A: Amps>(alloc: Global, machine: Machine<A>) -> Result<Answer<A>, AllocError>
+    requires kept { Keeps A.store machine }
+    requires plays { PlaysFirst machine.programs machine }
+    requires end { AllEnded machine.programs (state_of machine).tables }
+    ensures run { IfOk result (IsRun A.store machine.programs) }
     ensures may_put { IfOk result (MayPut A.store) }
 {
-    let slots = full_slots(alloc, program.qubits, &rank.slots)?;
-    let branch = Branch::start(alloc, SLOTS)?;
+    let slots = full_slots(alloc, &machine)?;
+    let branch = Branch::start(alloc, slots.len())?;
     Ok(Answer::Ended {
-        rank,
+        machine,
         slots,
         branch,
     })
 }
 
-/// Runs a program that may run, over a store that stands for the empty circuit. `AllocError` comes from the allocator alone.
-pub(crate) fn run<A: Amps>(
-    alloc: Global,
-    program: &Program,
-    amps: A,
-) -> Result<Answer<A>, AllocError>
+/// Runs ready programs, over a store that stands for the empty circuit. `AllocError` comes from the allocator alone.
+pub(crate) fn run<A: Amps>(alloc: Global, ready: Ready, amps: A) -> Result<Answer<A>, AllocError>
     requires able { A.able }
-    requires may { MayRun (listing_of program.now) }
+    requires built { IsBuilt ready }
     requires stands { StandsFor (A.store amps) [] }
     requires live { (A.store amps).live ≡ [] }
-    requires room { program.now.qubits ≤ (A.store amps).capacity }
-    ensures run { IfOk result (IsRun A.store (listing_of program.now)) }
+    requires room { capacity_of ready ≤ (A.store amps).capacity }
+    ensures run { IfOk result (IsRun A.store ready) }
     ensures may_put { IfOk result (MayPut A.store) }
 {
-    match play(program, Rank::start(amps, program.qubits)) {
-        Played::Stopped { turns } => Ok(Answer::Stopped { turns }),
-        Played::Ended { rank } => ended(alloc, program, rank),
+    let mut machine = Machine::start(alloc, ready, amps)?;
+    play(&mut machine);
+    match machine.state() {
+        State::Halted { halt } => Ok(Answer::Stopped { halt }),
+        State::AllEnded => ended(alloc, machine),
+        State::Running => unreachable!(),
     }
 }
 
@@ -136,6 +150,30 @@ fn put_refusal<O: Sink>(sink: &mut O, refusal: Refusal) -> Result<(), Failed>
     }
 }
 
+/// The name of a cause.
+fn cause_name(cause: Cause) -> &'static [u8]
+    ensures { result.now ≡ cause_name cause }
+{
+    match cause {
+        Cause::Overflow => b"overflow",
+        Cause::Impossible => b"impossible",
+        Cause::NotZero => b"not-zero",
+        Cause::NotEqual => b"not-equal",
+        Cause::Stuck => b"stuck",
+    }
+}
+
+/// Writes the line of a halt.
+fn put_halt<O: Sink>(sink: &mut O, halt: Halt) -> Result<(), Failed>
+    ensures { Puts (O.seen sink.old) (O.seen sink.new) (stopped_line halt.rank halt.turns halt.cause) result }
+{
+    put_line(sink, b"stopped rank ", halt.rank, b" turns ")?;
+    put_number(sink, halt.turns)?;
+    put_bytes(sink, b" ")?;
+    put_bytes(sink, cause_name(halt.cause))?;
+    put_bytes(sink, b"\n")
+}
+
 /// Writes the answer's text.
 fn put_text<A: Amps, O: Sink>(sink: &mut O, answer: Answer<A>) -> Result<(), Failed>
     requires { MayPut A.store answer }
@@ -146,14 +184,12 @@ fn put_text<A: Amps, O: Sink>(sink: &mut O, answer: Answer<A>) -> Result<(), Fai
         Answer::ReadFault => put_bytes(sink, b"read fault\n"),
         Answer::TooLong => put_bytes(sink, b"too long\n"),
         Answer::Refused { refusal } => put_refusal(sink, refusal),
-        Answer::Stopped { turns } => {
-            put_line(sink, b"stopped rank 0 turns ", turns, b" overflow\n")
-        }
+        Answer::Stopped { halt } => put_halt(sink, halt),
         Answer::Ended {
-            rank,
+            machine,
             slots,
             mut branch,
-        } => put_state(sink, &slots, &rank.amps, &mut branch),
+        } => put_state(sink, &machine, &slots, &mut branch),
     }
 }
 

@@ -5,16 +5,12 @@ mod answer;
 mod full_slot;
 pub mod laws;
 mod play;
-mod program;
-mod reader;
-mod refusal;
 mod state_text;
 mod status;
 mod top;
 
 pub use full_slot::FullSlot;
-pub use program::{Instruction, Program};
-pub use refusal::Refusal;
+pub use qm_reader::Refusal;
 pub use status::Status;
 pub use top::tool_plain;
 

@@ -1,17 +1,19 @@
 //! The state text, written branch by branch.
-ghost use Rattle.std.specs.Prelude.{◌∷◌, [], ◌++◌, ◌+◌, length, codes, decimal, IfOk, OnOk};
+ghost use Rattle.std.specs.Prelude.{◌∷◌, [], ◌++◌, ◌+◌, ◌<◌, ◌≡◌, length, codes, decimal, IfOk, OnOk};
 ghost use Rattle.std.specs.Fmt.{signed_decimal};
 ghost use Rattle.qm_io.specs.Ends.{Puts};
 ghost use Rattle.qm_zomega.specs.Zw.{value_of};
 ghost use Rattle.qm_denot.specs.WireLists.{wires_of};
-ghost use Rattle.qm_tool.specs.Branches.{IsEmpty, HasRoom, Becomes, GoesOn, components_text, without_last};
-ghost use Rattle.qm_tool.specs.Ranks.{AreLive};
-ghost use Rattle.qm_tool.specs.StateText.{slots_text, bits_text, branch_line, branch_lines, state_lines};
+ghost use Rattle.qm_tool.specs.Branches.{IsEmpty, HasRoom, Becomes, GoesOn, AreLive, components_text, without_last};
+ghost use Rattle.qm_proto.specs.Model.Schedules.{protocol_total};
+ghost use Rattle.qm_tool.specs.Answers.{bits_in, machine_text};
+ghost use Rattle.qm_tool.specs.StateText.{slots_text, hex_digit, hex_text, bits_lines, head_lines, bits_text, branch_line, branch_lines};
 
 use crate::full_slot::FullSlot;
 use itoa::{Buffer, Integer};
 use qm_denot::{Amps, Wire};
 use qm_io::{Failed, Sink, put_bytes};
+use qm_machine::Machine;
 use qm_zomega::Zw;
 use std::alloc::{AllocError, Global};
 
@@ -150,15 +152,17 @@ fn put_branches<A: Amps, O: Sink>(
     }
 }
 
-/// Writes ` 0.Q` for a full slot.
+/// Writes ` RANK.SLOT` for a full slot.
 fn put_slot<O: Sink>(sink: &mut O, full: FullSlot) -> Result<(), Failed>
-    ensures { Puts (O.seen sink.old) (O.seen sink.new) (codes " 0." ++ decimal full.slot) result }
+    ensures { Puts (O.seen sink.old) (O.seen sink.new) (codes " " ++ decimal full.rank ++ codes "." ++ decimal full.slot) result }
 {
-    put_bytes(sink, b" 0.")?;
+    put_bytes(sink, b" ")?;
+    put_number(sink, full.rank)?;
+    put_bytes(sink, b".")?;
     put_number(sink, full.slot)
 }
 
-/// Writes ` 0.Q` for each full slot.
+/// Writes ` RANK.SLOT` for each full slot.
 fn put_slots<O: Sink>(sink: &mut O, slots: &[FullSlot]) -> Result<(), Failed>
     ensures { Puts (O.seen sink.old) (O.seen sink.new) (slots_text slots.now) result }
 {
@@ -168,32 +172,95 @@ fn put_slots<O: Sink>(sink: &mut O, slots: &[FullSlot]) -> Result<(), Failed>
     Ok(())
 }
 
-/// Writes the lines before the slots, with this scale, and the word before them.
-fn put_head<O: Sink>(sink: &mut O, scale: u64) -> Result<(), Failed>
-    ensures { Puts (O.seen sink.old) (O.seen sink.new) (codes "state 1\nranks 1\nprotocol 0\nscale " ++ decimal scale ++ codes "\nbits 0 00000000\nlive") result }
+/// A lower-case hexadecimal digit.
+fn hex_digit(n: u32) -> u8
+    requires { n < 16 }
+    ensures { result ≡ hex_digit n }
 {
-    put_bytes(sink, b"state 1\nranks 1\nprotocol 0\nscale ")?;
-    put_number(sink, scale)?;
-    put_bytes(sink, b"\nbits 0 00000000\nlive")
+    if n < 10 {
+        b'0' + n as u8
+    } else {
+        b'a' + (n as u8 - 10)
+    }
 }
 
-/// Writes the state text of a rank with these full slots, in an empty branch with room for them. No call in it takes memory.
+/// Writes the last so many hexadecimal digits of a number.
+fn put_hex<O: Sink>(sink: &mut O, number: u32, digits: u32) -> Result<(), Failed>
+    ensures { Puts (O.seen sink.old) (O.seen sink.new) (hex_text digits number) result }
+{
+    if digits == 0 {
+        return Ok(());
+    }
+    put_hex(sink, number / 16, digits - 1)?;
+    put_bytes(sink, &[hex_digit(number % 16)])
+}
+
+/// Writes the line of a rank's classical bits.
+fn put_bits_line<O: Sink>(sink: &mut O, rank: u32, bits: u32) -> Result<(), Failed>
+    ensures { Puts (O.seen sink.old) (O.seen sink.new) (codes "bits " ++ decimal rank ++ codes " " ++ hex_text 8 bits ++ codes "\n") result }
+{
+    put_bytes(sink, b"bits ")?;
+    put_number(sink, rank)?;
+    put_bytes(sink, b" ")?;
+    put_hex(sink, bits, 8)?;
+    put_bytes(sink, b"\n")
+}
+
+/// Writes the lines of the classical bits of a machine's ranks.
+fn put_bits_lines<A: Amps, O: Sink>(sink: &mut O, machine: &Machine<A>) -> Result<(), Failed>
+    ensures { Puts (O.seen sink.old) (O.seen sink.new) (bits_lines (length machine.now.programs.ranks) (bits_in machine.now)) result }
+{
+    for rank in 0..u32::from(machine.ready().input().ranks()) {
+        put_bits_line(sink, rank, machine.bits(rank))?;
+    }
+    Ok(())
+}
+
+/// Writes the lines before the bits.
+fn put_head<O: Sink>(sink: &mut O, ranks: u16, protocol: u64, scale: u64) -> Result<(), Failed>
+    ensures { Puts (O.seen sink.old) (O.seen sink.new) (head_lines ranks protocol scale) result }
+{
+    put_bytes(sink, b"state 1\nranks ")?;
+    put_number(sink, ranks)?;
+    put_bytes(sink, b"\nprotocol ")?;
+    put_number(sink, protocol)?;
+    put_bytes(sink, b"\nscale ")?;
+    put_number(sink, scale)?;
+    put_bytes(sink, b"\n")
+}
+
+/// Writes the lines of a machine before its full slots.
+fn put_front<A: Amps, O: Sink>(sink: &mut O, machine: &Machine<A>) -> Result<(), Failed>
+    ensures { Puts (O.seen sink.old) (O.seen sink.new) (head_lines (length machine.now.programs.ranks) (protocol_total machine.now.programs) (A.store machine.now.amps).exponent ++ bits_lines (length machine.now.programs.ranks) (bits_in machine.now)) result }
+{
+    let ready = machine.ready();
+    put_head(
+        sink,
+        ready.input().ranks(),
+        ready.protocol_total(),
+        machine.amps().exponent(),
+    )?;
+    put_bits_lines(sink, machine)
+}
+
+/// Writes the state text of a machine with these full slots, in an empty branch with room for them. No call in it takes memory.
 ///
 /// `Failed` comes exactly where the sink fails. The sink has taken a front of the text then.
 pub(crate) fn put_state<A: Amps, O: Sink>(
     sink: &mut O,
+    machine: &Machine<A>,
     slots: &[FullSlot],
-    amps: &A,
     branch: &mut Branch,
 ) -> Result<(), Failed>
-    requires live { AreLive (A.store amps.now).live slots.now }
+    requires live { AreLive (A.store machine.now.amps).live slots.now }
     requires empty { IsEmpty branch.old }
     requires room { HasRoom branch.old (length slots.now) }
-    ensures { Puts (O.seen sink.old) (O.seen sink.new) (state_lines slots.now (A.store amps.now).value (A.store amps.now).exponent) result }
+    ensures { Puts (O.seen sink.old) (O.seen sink.new) (machine_text A.store machine.now slots.now) result }
 {
-    put_head(sink, amps.exponent())?;
+    put_front(sink, machine)?;
+    put_bytes(sink, b"live")?;
     put_slots(sink, slots)?;
     put_bytes(sink, b"\n")?;
-    put_branches(sink, amps, slots, branch)?;
+    put_branches(sink, machine.amps(), slots, branch)?;
     put_bytes(sink, b"end\n")
 }

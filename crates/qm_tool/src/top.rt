@@ -4,14 +4,14 @@ ghost use Rattle.std.specs.String.{string_bytes};
 ghost use Rattle.qm_io.specs.Ends.{Rose, Took};
 ghost use Rattle.qm_io.specs.Intake.{GaveMore, FailedOnce};
 ghost use Rattle.qm_tool.specs.Answers.{MayPut, AnswersText, AnswersSource, Concludes};
-ghost use Rattle.qm_tool.specs.Due.{is_plain, Due, EndsWith, StopsWith, RefusedWith};
+ghost use Rattle.qm_tool.specs.Due.{is_plain, Due, EndsWith, IsOneCircuit, StopsWith, RefusedWith};
 ghost use Rattle.qm_tool.specs.Calls.{Ran, Wrote};
 
 use crate::answer::{Answer, put_answer, run};
-use crate::reader::{ReadError, read};
 use crate::status::Status;
 use qm_denot::{Amps, PlainAmps};
 use qm_io::{Sink, Source, TextError, read_all};
+use qm_reader::{ReadError, read};
 use std::alloc::{AllocError, Global};
 
 /// Whether the words are the one command.
@@ -31,9 +31,9 @@ fn answer_text(alloc: Global, text: &[u8]) -> Result<Answer<PlainAmps>, AllocErr
     ensures may_put { IfOk result (MayPut (⟦<PlainAmps as Amps>⟧.store)) }
 {
     match read(alloc, text) {
-        Ok(program) => {
-            let amps = PlainAmps::start(alloc, u32::from(program.qubits) + 1)?;
-            run(alloc, &program, amps)
+        Ok(ready) => {
+            let amps = PlainAmps::start(alloc, ready.capacity())?;
+            run(alloc, ready, amps)
         }
         Err(ReadError::Refused { refusal }) => Ok(Answer::Refused { refusal }),
         Err(ReadError::Memory) => Err(AllocError),
@@ -78,8 +78,8 @@ fn conclude<A: Amps, O: Sink>(sink: &mut O, answer: Result<Answer<A>, AllocError
 
 /// Does a command: takes its words and a source, writes what is due to the sink and flushes it, and tells how the command ended.
 ///
-/// The one command is `plain`. It reads a program of one rank, does its instructions, and writes the state text. All memory is taken
-/// before the first byte is written.
+/// The one command is `plain`. It reads the programs of one or two ranks, steps the lowest rank that is neither ended nor blocked until
+/// all have ended, and writes the state text. All memory is taken before the first byte is written.
 pub fn tool_plain<I: Source, O: Sink>(
     alloc: Global,
     words: &[String],
@@ -88,8 +88,11 @@ pub fn tool_plain<I: Source, O: Sink>(
 ) -> Status
     ensures ran { Ran (map string_bytes words.now) (I.seen source.old) (I.seen source.new) (O.seen sink.old) (O.seen sink.new) result }
 
-    // The text is all that the source had left, it is a program that runs through, and its state text is what the sink took.
-    ensures headline { result ≡ Status.Ok → Wrote EndsWith (I.seen source.old) (I.seen source.new) (O.seen sink.old) (O.seen sink.new) }
+    // The text is all that the source had left, its programs run to their end, and the state text of that end is what the sink took.
+    ensures ended { result ≡ Status.Ok → Wrote EndsWith (I.seen source.old) (I.seen source.new) (O.seen sink.old) (O.seen sink.new) }
+
+    // And where the text has one rank, what the sink took is the state text of the one circuit that its instructions are.
+    ensures headline { result ≡ Status.Ok → Wrote IsOneCircuit (I.seen source.old) (I.seen source.new) (O.seen sink.old) (O.seen sink.new) }
 
     // Each other status has its cause.
     ensures usage { result ≡ Status.Usage → is_plain (map string_bytes words.now) ≡ false }

@@ -1,8 +1,7 @@
-use Rattle.std.proofs.Common.{◌≡◌, ℕ, Option}
-use Rattle.qm_denot.specs.declared.Wire.{Wire}
-use Rattle.qm_tool.specs.Ranks.{SameSlots}
-use Rattle.qm_tool.specs.StateText.{full_slots}
+use Rattle.std.proofs.Common.{◌≡◌}
+use Rattle.qm_machine.specs.Keeps.{state_of}
+use Rattle.qm_tool.specs.StateText.{slots_below}
 use Rattle.qm_tool.proofs.answer.full_slots.Given as goal
 
-abbrev pub invariant-loop-slot : goal.invariant-loop-slot
-invariant-loop-slot l = (state : ℕ → Option Wire) → SameSlots l.slots state → l.full.items ≡ full_slots l.slot state
+abbrev pub invariant-loop-rank : goal.invariant-loop-rank
+invariant-loop-rank g l = l.full.items ≡ slots_below l.machine.programs l.rank (state_of l.machine).tables.slots

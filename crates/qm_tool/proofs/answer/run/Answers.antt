@@ -1,5 +1,5 @@
-use Rattle.qm_tool.specs.Answers.{Stops}
+use Rattle.qm_tool.proofs.PlayLemmas.{PlaysFirst-stops}
 use Rattle.qm_tool.proofs.answer.run.Goals as goal
 
-pub returns-in-Stopped-clause-run : goal.returns-in-Stopped-clause-run
-returns-in-Stopped-clause-run g c = Stops _ c.in-Stopped.ensures
+pub returns-in-Halted-clause-run : goal.returns-in-Halted-clause-run
+returns-in-Halted-clause-run g c = PlaysFirst-stops _ _ _ _ (rw c.in_ok-machine.ensures at c.play.ensures) c.in-Halted.ensures.state

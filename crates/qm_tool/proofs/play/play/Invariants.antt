@@ -1,6 +1,9 @@
-use Rattle.std.proofs.Common.{take}
-use Rattle.qm_tool.specs.Ranks.{IsAt}
+use Rattle.std.proofs.Common.{◌-◌, length}
+use Rattle.qm_tool.specs.Plays.{PlaysOn}
 use Rattle.qm_tool.proofs.play.play.Given as goal
 
-abbrev pub invariant-loop-turn : goal.invariant-loop-turn
-invariant-loop-turn g l = IsAt l.program.qubits l.rank.made l.rank.slots (g.A.Amps.store l.rank.amps) (take l.turn l.program.instructions.items)
+abbrev pub invariant-loop : goal.invariant-loop
+invariant-loop g l = PlaysOn l.fn.machine.programs l.machine
+
+abbrev pub decreases-loop : goal.decreases-loop
+decreases-loop g l = 500001 - length l.machine.schedule

@@ -1,5 +1,5 @@
 use Rattle.qm_tool.specs.declared.status.Status.TheVariants as status
-use Rattle.qm_tool.proofs.CallLaws.{Ran-cause, Ran-exact, Concludes-ran, Concludes-usage}
+use Rattle.qm_tool.proofs.CallLaws.{Wrote-one_circuit, Ran-cause, Ran-exact, Concludes-ran, Concludes-usage}
 use Rattle.qm_tool.proofs.top.tool_plain.Goals as goal
 
 pub returns : goal.returns
@@ -7,7 +7,8 @@ returns g c =
     let ran = Concludes-ran _ _ _ _ _ _ _ _ c.answer_to-answer.ensures.due c.conclude.ensures in
     record {
       ran = ran;
-      headline = Ran-cause _ _ _ _ _ _ status.Ok ran;
+      ended = Ran-cause _ _ _ _ _ _ status.Ok ran;
+      headline = λ e. Wrote-one_circuit _ _ _ _ (Ran-cause _ _ _ _ _ _ status.Ok ran e);
       usage = Ran-cause _ _ _ _ _ _ status.Usage ran;
       read_fault = Ran-cause _ _ _ _ _ _ status.ReadFault ran;
       too_long = Ran-cause _ _ _ _ _ _ status.TooLong ran;
