@@ -53,6 +53,7 @@ pub struct Halt {
     pub rank: u32,
     /// The length of the schedule.
     pub turns: u64,
+    /// Why the event was refused, or that the machine is stuck.
     pub cause: Cause,
 }
 

@@ -45,8 +45,11 @@ impl<A: Amps> Model for Machine<A> {
 }
 
 impl<A: Amps> Machine<A> {
-    /// A machine before its first event, over a store that stands for the empty circuit. All memory is taken here; `AllocError` comes
-    /// from the allocator alone.
+    /// A machine before its first event, over a store that stands for the empty circuit.
+    ///
+    /// The programs have no instruction but those that are built: a new qubit, the gates, and both sides of a copy. The store has no live
+    /// wire, and room for as many as the programs' slots and buffers. All memory is taken here; `AllocError` comes from the allocator
+    /// alone.
     pub fn start(alloc: Global, ready: Ready, amps: A) -> Result<Machine<A>, AllocError>
         requires built { IsBuilt ready }
         requires stands { StandsFor (A.store amps) [] }
