@@ -16,9 +16,9 @@ use Rattle.std.proofs.lemmas.Cmp.{tied_itself}
 use Rattle.std.proofs.lemmas.Bool.Decides.{nat_tests}
 use Rattle.std.proofs.lemmas.List.Elements.{All-nil, All-cons}
 use Rattle.qm_instr.specs.declared.Lane.{Lane}
-use Rattle.qm_instr.specs.Lanes.{is_same_lane}
+use Rattle.qm_instr.specs.Lanes.{is_lane}
 use Rattle.qm_instr.specs.Programs.{Programs}
-use Rattle.qm_instr.proofs.LaneOrder.{lane_order-derived, lane_order-equal}
+use Rattle.qm_instr.proofs.LaneOrder.{lane_order-derived, lane_order-equal, is_lane-order}
 use Rattle.qm_check.specs.declared.Fault.{Fault}
 use Rattle.qm_check.specs.declared.LaneCount.{LaneCount}
 use Rattle.qm_check.specs.declared.messages.Tally.{Tally}
@@ -153,9 +153,9 @@ some-listed [] = All-nil (λ (c : LaneCount). 0 < c.sends)
 some-listed (e ∷ es) = some_with (nat_lt 0 e.1.sends) e (sends_listed es) refl (some-listed es)
 
 -- the code's test for a lane is the one of the fields
-test-same : (e : Lane × Tally) (a : Lane) → is_same_lane e.0 a ≡ is_at (code_order a) e.0
+test-same : (e : Lane × Tally) (a : Lane) → is_lane e.0 a ≡ is_at (code_order a) e.0
 test-same e a =
-    ap is_eq (sym (lane_order-derived e.0 a)) ∙ (eq_by_cmp_equiv code_order-total).symm e.0 a
+    is_lane-order e.0 a ∙ ap is_eq (sym (lane_order-derived e.0 a)) ∙ (eq_by_cmp_equiv code_order-total).symm e.0 a
 
 exact_with : (b here : Bool) (e : Lane × Tally) (es : List (Lane × Tally)) (a : Lane) → nat_lt 0 e.1.sends ≡ b → is_at (code_order a) e.0 ≡ here → IsStrictlySortedBy code_order (keys_of (e ∷ es)) → listed_sends (sends_listed es) a ≡ (tally_among es a).sends → listed_sends (listed_with b e (sends_listed es)) a ≡ (tally_among (e ∷ es) a).sends
 exact_with true true e es a test here sorted rest =

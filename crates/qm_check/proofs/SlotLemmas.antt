@@ -13,8 +13,8 @@ use Rattle.qm_instr.specs.Operands.{HasOperands, slots_of, gate_slots}
 use Rattle.qm_instr.specs.Programs.{Programs, RankProgram, rank_of, idle_rank, IsInRange}
 use Rattle.qm_instr.proofs.Ranges.{rank_of-in_range}
 use Rattle.qm_check.specs.declared.Fault.{Fault}
-use Rattle.qm_check.specs.declared.operands.Uses.{Uses}
-use Rattle.qm_check.specs.declared.operands.Uses.TheVariants.{Nothing, Fills, Keeps, Empties, Joins}
+use Rattle.qm_check.specs.declared.Uses.{Uses}
+use Rattle.qm_check.specs.declared.Uses.TheVariants.{Nothing, Fills, Keeps, Empties, Joins}
 use Rattle.qm_check.specs.Operands.{uses_of, gate_uses, partner_of}
 use Rattle.qm_check.specs.Faults.{IsFirst, IsBelow}
 use Rattle.qm_check.proofs.Firsts.{first_here, NoneBefore}

@@ -14,13 +14,13 @@ use Rattle.std.specs.Cmp.{IsTotalOrder}
 use Rattle.std.proofs.Math.Path.{fun_ext}
 use Rattle.qm_instr.specs.declared.Instr.{Instr}
 use Rattle.qm_instr.specs.declared.Lane.{Lane}
-use Rattle.qm_instr.specs.Lanes.{lane_order}
-use Rattle.qm_instr.proofs.LaneOrder.{lane_order-derived, lane_order-total}
+use Rattle.qm_instr.specs.Lanes.{lane_order, is_on}
+use Rattle.qm_instr.proofs.LaneOrder.{lane_order-derived, lane_order-total, is_lane-order}
 use Rattle.qm_check.specs.declared.messages.Tally.{Tally}
 use Rattle.qm_instr.specs.Lanes.{lane_received}
 use Rattle.qm_instr.specs.declared.Instr.TheVariants as instr
 use Rattle.qm_instr.specs.Programs.{Programs, rank_of}
-use Rattle.qm_check.specs.Messages.{is_lane, lane_posted, posts_in, receives_in, lane_sends, lane_receives}
+use Rattle.qm_check.specs.Messages.{lane_posted, posts_in, receives_in, lane_sends, lane_receives}
 use Rattle.qm_check.specs.Tallies.{code_order, tally, tally_in, plus, plus_at, plus_instruction, rank_tally}
 
 -- the order of the code is that of the fields
@@ -53,7 +53,7 @@ noted m n k a more had true test read put =
 -- what a message leaves in the tallies
 pub tally_in-noted : (m n : BTreeMap Lane Tally) (on : Option Lane) (k a : Lane) (more had : Tally) → on ≡ Some k → had ≡ tally_in m k → get code_order n a ≡ cond (is_eq (code_order k a)) (Some (plus had more)) (get code_order m a) → tally_in n a ≡ plus_at on more a (tally_in m a)
 tally_in-noted m n on k a more had is read put =
-    let tests : is_eq (code_order k a) ≡ is_lane on a = ap is_eq (lane_order-derived k a) ∙ ap (λ (o : Option Lane). is_lane o a) (sym is) in
+    let tests : is_eq (code_order k a) ≡ is_on on a = ap is_eq (lane_order-derived k a) ∙ sym (is_lane-order k a) ∙ ap (λ (o : Option Lane). is_on o a) (sym is) in
     noted m n k a more had (is_eq (code_order k a)) refl read put ∙ ap (λ (b : Bool). cond b (plus (tally_in m a) more) (tally_in m a)) tests
 
 -- tallies are equal where their parts are
@@ -78,7 +78,7 @@ pub rank_tally_more : (m n : BTreeMap Lane Tally) (t : Tally) (r k : ℕ) (is : 
 rank_tally_more m n t r k is i a so_far read noted =
     noted
     ∙ ap (plus_instruction r i a) so_far
-    ∙ plus_flags (is_lane (lane_posted r i) a) (is_lane (lane_received r i) a) t (rank_tally r (take k is) a) _ _ (count_more (λ (x : Instr). is_lane (lane_posted r x) a) is k i read) (count_more (λ (x : Instr). is_lane (lane_received r x) a) is k i read)
+    ∙ plus_flags (is_on (lane_posted r i) a) (is_on (lane_received r i) a) t (rank_tally r (take k is) a) _ _ (count_more (λ (x : Instr). is_on (lane_posted r x) a) is k i read) (count_more (λ (x : Instr). is_on (lane_received r x) a) is k i read)
 
 -- a lane's tally over the ranks below n
 abbrev pub tally_below : Programs → ℕ → Lane → Tally
@@ -122,15 +122,15 @@ received_to r (instr.MoveFrom q from tag) = refl
 received_to r (instr.ReachFrom t from tag) = refl
 received_to r _ = tt
 
-not_lane_from : (r : ℕ) (o : Option Lane) (a : Lane) → IsFrom r o → a.from ≢ r → is_lane o a ≡ false
+not_lane_from : (r : ℕ) (o : Option Lane) (a : Lane) → IsFrom r o → a.from ≢ r → is_on o a ≡ false
 not_lane_from r None a from apart = refl
 not_lane_from r (Some b) a from apart =
-    apart_first b.from a.from (nat_cmp b.from a.from) _ (ranked b.from a.from (nat_cmp b.from a.from) refl) (λ e. apart (sym e ∙ from))
+    is_lane-order b a ∙ apart_first b.from a.from (nat_cmp b.from a.from) _ (ranked b.from a.from (nat_cmp b.from a.from) refl) (λ e. apart (sym e ∙ from))
 
-not_lane_to : (r : ℕ) (o : Option Lane) (a : Lane) → IsTo r o → a.to ≢ r → is_lane o a ≡ false
+not_lane_to : (r : ℕ) (o : Option Lane) (a : Lane) → IsTo r o → a.to ≢ r → is_on o a ≡ false
 not_lane_to r None a to apart = refl
 not_lane_to r (Some b) a to apart =
-    apart_rest (nat_cmp b.from a.from) _ (apart_first b.to a.to (nat_cmp b.to a.to) _ (ranked b.to a.to (nat_cmp b.to a.to) refl) (λ e. apart (sym e ∙ to)))
+    is_lane-order b a ∙ apart_rest (nat_cmp b.from a.from) _ (apart_first b.to a.to (nat_cmp b.to a.to) _ (ranked b.to a.to (nat_cmp b.to a.to) refl) (λ e. apart (sym e ∙ to)))
 
 -- where no instruction counts, the count is 0
 count_none : (p : Instr → Bool) (is : List Instr) → ((i : Instr) → p i ≡ false) → count_by p is ≡ 0
@@ -149,6 +149,6 @@ part_more x n whole here at away =
 pub tally_below_more : (p : Programs) (n : ℕ) (s t : Tally) (a : Lane) → s ≡ tally_below p n a → t ≡ plus s (rank_tally n (rank_of p n).instructions a) → t ≡ tally_below p (n + 1) a
 tally_below_more p n s t a so_far noted =
     let is = (rank_of p n).instructions in
-    let sends : cond (nat_lt a.from n) (lane_sends p a) 0 + posts_in n a is ≡ cond (nat_lt a.from (n + 1)) (lane_sends p a) 0 = part_more a.from n (lane_sends p a) (posts_in n a is) (λ e. ap (λ (r : ℕ). posts_in r a (rank_of p r).instructions) (sym e)) (λ apart. count_none (λ i. is_lane (lane_posted n i) a) is (λ i. not_lane_from n (lane_posted n i) a (posted_from n i) apart)) in
-    let receives : cond (nat_lt a.to n) (lane_receives p a) 0 + receives_in n a is ≡ cond (nat_lt a.to (n + 1)) (lane_receives p a) 0 = part_more a.to n (lane_receives p a) (receives_in n a is) (λ e. ap (λ (r : ℕ). receives_in r a (rank_of p r).instructions) (sym e)) (λ apart. count_none (λ i. is_lane (lane_received n i) a) is (λ i. not_lane_to n (lane_received n i) a (received_to n i) apart)) in
+    let sends : cond (nat_lt a.from n) (lane_sends p a) 0 + posts_in n a is ≡ cond (nat_lt a.from (n + 1)) (lane_sends p a) 0 = part_more a.from n (lane_sends p a) (posts_in n a is) (λ e. ap (λ (r : ℕ). posts_in r a (rank_of p r).instructions) (sym e)) (λ apart. count_none (λ i. is_on (lane_posted n i) a) is (λ i. not_lane_from n (lane_posted n i) a (posted_from n i) apart)) in
+    let receives : cond (nat_lt a.to n) (lane_receives p a) 0 + receives_in n a is ≡ cond (nat_lt a.to (n + 1)) (lane_receives p a) 0 = part_more a.to n (lane_receives p a) (receives_in n a is) (λ e. ap (λ (r : ℕ). receives_in r a (rank_of p r).instructions) (sym e)) (λ apart. count_none (λ i. is_on (lane_received n i) a) is (λ i. not_lane_to n (lane_received n i) a (received_to n i) apart)) in
     noted ∙ ap (λ (x : Tally). plus x (rank_tally n is a)) so_far ∙ tally_same _ _ _ _ sends receives

@@ -6,7 +6,7 @@ use Rattle.qm_instr.specs.declared.Instr.{Instr}
 use Rattle.qm_instr.specs.declared.Instr.TheVariants as instr
 use Rattle.qm_instr.specs.Counts.{events_of, protocol_of, own_of}
 use Rattle.qm_instr.specs.Programs.{RankProgram, idle_rank}
-use Rattle.qm_check.specs.declared.totals.Totals.{Totals}
+use Rattle.qm_check.specs.declared.Totals.{Totals}
 use Rattle.qm_check.specs.Totals.{totals_of, totals_over}
 
 -- no instruction has more than 5 events, 2 outcomes of the protocol tape and 1 of the own tape

@@ -5,7 +5,7 @@ use Rattle.qm_instr.specs.Programs.{Programs}
 use Rattle.qm_check.specs.declared.Fault.{Fault}
 use Rattle.qm_check.specs.declared.Fault.TheVariants as fault
 use Rattle.qm_check.specs.declared.LaneCount.{LaneCount}
-use Rattle.qm_check.specs.declared.totals.Totals.{Totals}
+use Rattle.qm_check.specs.declared.Totals.{Totals}
 use Rattle.qm_check.specs.Faults.{IsFirst, IsEarlierStep, IsEarlierTape}
 use Rattle.qm_check.specs.Messages.{IsLower, lane_fault, IsLaneTable}
 use Rattle.qm_check.specs.Slots.{step_fault}

@@ -7,7 +7,7 @@ use Rattle.qm_instr.specs.declared.Instr.TheVariants as instr
 use Rattle.qm_instr.specs.declared.Kind.{Kind}
 use Rattle.qm_instr.specs.declared.Kind.TheVariants as kind
 use Rattle.qm_instr.specs.declared.Lane.{Lane}
-use Rattle.qm_instr.specs.Lanes.{lane, lane_order, is_same_lane, lane_sent, lane_received}
+use Rattle.qm_instr.specs.Lanes.{lane, lane_order, is_lane, lane_sent, lane_received, is_on}
 use Rattle.qm_instr.specs.Programs.{Programs, rank_of}
 use Rattle.qm_check.specs.declared.Fault.{Fault}
 use Rattle.qm_check.specs.declared.Fault.TheVariants as fault
@@ -18,17 +18,13 @@ abbrev pub lane_posted : ℕ → Instr → Option Lane
 lane_posted r (instr.ReachFrom t from tag) = Some (lane r from kind.Back tag)
 lane_posted r i = lane_sent r i
 
-abbrev pub is_lane : Option Lane → Lane → Bool
-is_lane None a = false
-is_lane (Some b) a = is_same_lane b a
-
 -- how many instructions of a rank post on a lane
 abbrev pub posts_in : ℕ → Lane → List Instr → ℕ
-posts_in r a is = count_by (λ i. is_lane (lane_posted r i) a) is
+posts_in r a is = count_by (λ i. is_on (lane_posted r i) a) is
 
 -- how many instructions of a rank receive on a lane
 abbrev pub receives_in : ℕ → Lane → List Instr → ℕ
-receives_in r a is = count_by (λ i. is_lane (lane_received r i) a) is
+receives_in r a is = count_by (λ i. is_on (lane_received r i) a) is
 
 -- the sends of a lane, all at its sender
 abbrev pub lane_sends : Programs → Lane → ℕ
@@ -41,7 +37,11 @@ lane_receives p a = receives_in a.to a (rank_of p a.to).instructions
 -- whether a lane carries answers, which no instruction alone sends or receives
 abbrev pub is_back : Kind → Bool
 is_back kind.Back = true
-is_back _ = false
+is_back kind.Bit = false
+is_back kind.Copy = false
+is_back kind.Move = false
+is_back kind.Undo = false
+is_back kind.Reach = false
 
 -- the fault of a lane with so many sends and receives
 abbrev pub match_fault : Lane → ℕ → ℕ → Option Fault
@@ -59,7 +59,7 @@ IsLower a b = lane_order a b ≡ Less
 -- the sends of a lane by a list of counts; a lane that it doesn't have has none
 abbrev pub listed_sends : List LaneCount → Lane → ℕ
 listed_sends [] a = 0
-listed_sends (c ∷ cs) a = if is_same_lane c.lane a then c.sends else listed_sends cs a
+listed_sends (c ∷ cs) a = if is_lane c.lane a then c.sends else listed_sends cs a
 
 -- the lanes on which something is posted, lowest first, each once and with its sends
 pub record IsLaneTable (p : Programs) (cs : List LaneCount) : Type 0 where

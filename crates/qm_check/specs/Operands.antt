@@ -4,8 +4,8 @@ use Rattle.qm_instr.specs.declared.Gate.{Gate}
 use Rattle.qm_instr.specs.declared.Gate.TheVariants as gate
 use Rattle.qm_instr.specs.declared.Instr.{Instr}
 use Rattle.qm_instr.specs.declared.Instr.TheVariants as instr
-use Rattle.qm_check.specs.declared.operands.Uses.{Uses}
-use Rattle.qm_check.specs.declared.operands.Uses.TheVariants.{Nothing, Fills, Keeps, Empties, Joins}
+use Rattle.qm_check.specs.declared.Uses.{Uses}
+use Rattle.qm_check.specs.declared.Uses.TheVariants.{Nothing, Fills, Keeps, Empties, Joins}
 
 -- what a gate does with its slots
 abbrev pub gate_uses : Gate → Uses
@@ -35,6 +35,13 @@ uses_of (instr.ReachFrom t from tag) = Keeps t
 
 -- the rank that an instruction names
 abbrev pub partner_of : Instr → Option ℕ
+partner_of (instr.Alloc q) = None
+partner_of (instr.Free q) = None
+partner_of (instr.Do g) = None
+partner_of (instr.Measure q b) = None
+partner_of (instr.Set b v) = None
+partner_of (instr.Xor b c) = None
+partner_of (instr.When b g) = None
 partner_of (instr.SendBit b to tag) = Some to
 partner_of (instr.RecvBit b from tag) = Some from
 partner_of (instr.CopyTo q to tag) = Some to
@@ -45,4 +52,3 @@ partner_of (instr.MoveTo q to tag) = Some to
 partner_of (instr.MoveFrom q from tag) = Some from
 partner_of (instr.ReachTo q to tag) = Some to
 partner_of (instr.ReachFrom t from tag) = Some from
-partner_of _ = None

@@ -5,8 +5,8 @@ use Rattle.qm_instr.specs.declared.Instr.{Instr}
 use Rattle.qm_instr.specs.Programs.{Programs, rank_of}
 use Rattle.qm_check.specs.declared.Fault.{Fault}
 use Rattle.qm_check.specs.declared.Fault.TheVariants as fault
-use Rattle.qm_check.specs.declared.operands.Uses.{Uses}
-use Rattle.qm_check.specs.declared.operands.Uses.TheVariants.{Nothing, Fills, Keeps, Empties, Joins}
+use Rattle.qm_check.specs.declared.Uses.{Uses}
+use Rattle.qm_check.specs.declared.Uses.TheVariants.{Nothing, Fills, Keeps, Empties, Joins}
 use Rattle.qm_check.specs.Operands.{uses_of, partner_of}
 
 -- each slot is below 16
@@ -21,7 +21,9 @@ HasFewSlots (Joins c t) = (c < 16) × (t < 16)
 abbrev pub is_full_after : ℕ → Bool → Uses → Bool
 is_full_after q before (Fills s) = if s == q then true else before
 is_full_after q before (Empties s) = if s == q then false else before
-is_full_after q before _ = before
+is_full_after q before Nothing = before
+is_full_after q before (Keeps s) = before
+is_full_after q before (Joins c t) = before
 
 -- whether slot q is full after these instructions, if all slots are empty at first
 abbrev pub full_after : List Instr → ℕ → Bool

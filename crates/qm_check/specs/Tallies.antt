@@ -6,12 +6,12 @@ use Rattle.std.specs.declared.cmp.Ordering.{Ordering}
 use Rattle.qm_instr.specs.declared.Instr.{Instr}
 use Rattle.qm_instr.specs.declared.Lane.{Lane}
 use Rattle.qm_instr.specs.contracts.LaneOrd.TheImpl as lane_ord
-use Rattle.qm_instr.specs.Lanes.{lane_received}
+use Rattle.qm_instr.specs.Lanes.{lane_received, is_on}
 use Rattle.qm_instr.specs.Programs.{Programs}
 use Rattle.qm_check.specs.declared.Fault.{Fault}
 use Rattle.qm_check.specs.declared.LaneCount.{LaneCount}
 use Rattle.qm_check.specs.declared.messages.Tally.{Tally}
-use Rattle.qm_check.specs.Messages.{is_lane, lane_posted, posts_in, receives_in, lane_sends, lane_receives, match_fault}
+use Rattle.qm_check.specs.Messages.{lane_posted, posts_in, receives_in, lane_sends, lane_receives, match_fault}
 
 -- the order of the lanes in the code
 abbrev pub code_order : Lane → Lane → Ordering
@@ -30,7 +30,7 @@ plus s t = tally (s.sends + t.sends) (s.receives + t.receives)
 
 -- what a message on a lane, if it is one, adds to the tally of lane a
 abbrev pub plus_at : Option Lane → Tally → Lane → Tally → Tally
-plus_at on more a had = if is_lane on a then plus had more else had
+plus_at on more a had = if is_on on a then plus had more else had
 
 -- a lane's tally over instructions of a rank
 abbrev pub rank_tally : ℕ → List Instr → Lane → Tally

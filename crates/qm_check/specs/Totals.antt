@@ -3,7 +3,7 @@ use Rattle.std.specs.Prelude.{List, sum_by}
 use Rattle.qm_instr.specs.declared.Instr.{Instr}
 use Rattle.qm_instr.specs.Counts.{events_of, protocol_of, own_of}
 use Rattle.qm_instr.specs.Programs.{RankProgram}
-use Rattle.qm_check.specs.declared.totals.Totals.{Totals}
+use Rattle.qm_check.specs.declared.Totals.{Totals}
 
 -- the totals of these instructions
 abbrev pub totals_of : List Instr → Totals

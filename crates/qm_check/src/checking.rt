@@ -8,11 +8,11 @@ ghost use Rattle.qm_check.specs.Messages.{IsLaneTable};
 ghost use Rattle.qm_check.specs.Tallies.{tally_in, lane_tally};
 ghost use Rattle.qm_check.specs.Totals.{totals_over};
 
+use crate::counting::all_totals;
 use crate::messages::{Tallies, fault_of_lanes, send_counts, tally_lanes};
 use crate::slots::fault_of_steps;
 use crate::tapes::fault_of_tapes;
-use crate::totals::{Totals, all_totals};
-use crate::{CheckError, Fault, LaneCount};
+use crate::{CheckError, Fault, LaneCount, Totals};
 use qm_instr::{Input, Lane};
 use std::alloc::Global;
 use std::marker::Model;

@@ -2,11 +2,11 @@
 #![tactic(auto)]
 
 mod checking;
+mod counting;
 mod messages;
 mod operands;
 mod slots;
 mod tapes;
-mod totals;
 
 pub use checking::{Ready, check};
 
@@ -75,4 +75,27 @@ pub enum CheckError {
 pub struct LaneCount {
     pub lane: Lane,
     pub sends: u32,
+}
+
+/// What an instruction does with its slots.
+#[derive(Clone, Copy, PartialEq, Eq, Debug)]
+pub enum Uses {
+    /// It has none.
+    Nothing,
+    /// Its slot must be empty, and is full afterwards.
+    Fills { q: u8 },
+    /// Its slot must be full, and stays so.
+    Keeps { q: u8 },
+    /// Its slot must be full, and is empty afterwards.
+    Empties { q: u8 },
+    /// Its two slots must differ and be full, and stay so.
+    Joins { c: u8, t: u8 },
+}
+
+/// How many events many instructions have, and how many outcomes they take from the protocol tapes and the own tapes.
+#[derive(Clone, Copy, PartialEq, Eq, Debug)]
+pub struct Totals {
+    pub events: u64,
+    pub protocol: u64,
+    pub own: u64,
 }

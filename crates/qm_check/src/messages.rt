@@ -2,7 +2,8 @@
 ghost use Rattle.std.specs.Prelude.{◌≡◌, ◌<◌, ◌≤◌, length, IfOk, OnOk};
 ghost use Rattle.std.specs.BTreeMap.{IsOrdered};
 ghost use Rattle.qm_instr.specs.Programs.{rank_of};
-ghost use Rattle.qm_check.specs.Messages.{is_lane, lane_posted, match_fault};
+ghost use Rattle.qm_instr.specs.Lanes.{is_on};
+ghost use Rattle.qm_check.specs.Messages.{lane_posted, match_fault};
 ghost use Rattle.qm_check.specs.Tallies.{code_order, tally, tally_in, plus, plus_at, rank_tally, lane_tally, plus_instruction, IsAtMost, first_mismatch, sends_listed};
 
 use crate::{Fault, LaneCount};

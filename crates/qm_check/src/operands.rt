@@ -2,22 +2,8 @@
 ghost use Rattle.std.specs.Prelude.{◌≡◌};
 ghost use Rattle.qm_check.specs.Operands.{gate_uses, uses_of, partner_of};
 
+use crate::Uses;
 use qm_instr::{Gate, Instr};
-
-/// What an instruction does with its slots.
-#[derive(Clone, Copy, PartialEq, Eq, Debug)]
-pub(crate) enum Uses {
-    /// It has none.
-    Nothing,
-    /// Its slot must be empty, and is full afterwards.
-    Fills { q: u8 },
-    /// Its slot must be full, and stays so.
-    Keeps { q: u8 },
-    /// Its slot must be full, and is empty afterwards.
-    Empties { q: u8 },
-    /// Its two slots must differ and be full, and stay so.
-    Joins { c: u8, t: u8 },
-}
 
 /// What a gate does with its slots.
 fn gate_slot_uses(g: Gate) -> Uses

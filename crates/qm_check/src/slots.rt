@@ -5,8 +5,8 @@ ghost use Rattle.qm_check.specs.Faults.{IsFirst, IsBelow, IsEarlierStep};
 ghost use Rattle.qm_check.specs.Operands.{uses_of};
 ghost use Rattle.qm_check.specs.Slots.{HasFewSlots, is_full_after, partner_fault, slot_fault, instruction_fault, step_fault};
 
-use crate::Fault;
-use crate::operands::{Uses, partner, slot_uses};
+use crate::operands::{partner, slot_uses};
+use crate::{Fault, Uses};
 use qm_instr::{Input, Instr};
 
 /// How many slots a rank may have.

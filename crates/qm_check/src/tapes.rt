@@ -5,7 +5,7 @@ ghost use Rattle.qm_check.specs.Faults.{IsFirst, IsEarlierTape};
 ghost use Rattle.qm_check.specs.Tapes.{length_fault, tape_fault};
 
 use crate::Fault;
-use crate::totals::rank_totals;
+use crate::counting::rank_totals;
 use qm_instr::Input;
 
 /// The fault of a tape of which so many outcomes are needed.

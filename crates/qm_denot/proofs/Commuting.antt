@@ -8,9 +8,9 @@ use Rattle.qm_denot.specs.declared.Letter.{Letter}
 use Rattle.qm_denot.specs.Wires.{Wires}
 use Rattle.qm_denot.specs.WireLists.{Lacks}
 use Rattle.qm_denot.specs.Weights.{operands}
-use Rattle.qm_denot.specs.Circuits.{Amplitudes, with_letter, with_letters, halvings}
+use Rattle.qm_denot.specs.Circuits.{Amplitudes, Circuit, with_letter, with_letters, amp, halvings}
 use Rattle.qm_denot.proofs.Agreement.{Apart, LettersApart, apart_one, apart_sym}
-use Rattle.qm_denot.proofs.Amplitudes.{with_letters-append, halvings-append}
+use Rattle.qm_denot.proofs.Amplitudes.{with_letters-append, amp-append, halvings-append}
 use Rattle.qm_denot.proofs.Forms.{Term, Form, WritesApart, times, times-plus, times_swap, value, form, written, written_swap, with_letter-form, form_apart, form-written}
 
 -- a term of a term
@@ -78,3 +78,10 @@ with_letters_swap ls ks apart f = with_letters-append ls ks f ∙ past ls apart 
 -- halvings do not depend on the order of two lists
 pub halvings_swap : (ls ks : List Letter) → halvings (ls ++ ks) ≡ halvings (ks ++ ls)
 halvings_swap ls ks = halvings-append ls ks ∙ add_comm (halvings ls) (halvings ks) ∙ sym (halvings-append ks ls)
+
+-- such lists may change places at the end of a circuit
+pub swapped_end : (c : Circuit) (ls ks : List Letter) → AllApart ls ks → amp ((c ++ ls) ++ ks) ≡ amp ((c ++ ks) ++ ls)
+swapped_end c ls ks apart = order ls ks ∙ with_letters_swap ls ks apart (amp c) ∙ sym (order ks ls)
+  where
+    order : (ls ks : List Letter) → amp ((c ++ ls) ++ ks) ≡ with_letters (ls ++ ks) (amp c)
+    order ls ks = amp-append (c ++ ls) ks ∙ ap (with_letters ks) (amp-append c ls) ∙ sym (with_letters-append ls ks (amp c))

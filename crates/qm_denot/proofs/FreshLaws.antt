@@ -12,7 +12,8 @@ use Rattle.qm_denot.specs.WireLists.{Lacks}
 use Rattle.qm_denot.specs.Circuits.{Amplitudes, Circuit, amp}
 use Rattle.qm_denot.specs.Stores.{StandsFor, IsReducedForm}
 use Rattle.qm_denot.specs.Places.{bit_of, index_of, without, is_within}
-use Rattle.qm_denot.specs.Plain.{number_at, plain_value, plain_store}
+use Rattle.qm_denot.specs.ListStores.{listed_value, listed_store}
+use Rattle.qm_zomega.specs.NumberLists.{number_at}
 use Rattle.qm_denot.specs.Sound.{Keeps}
 use Rattle.qm_denot.proofs.Sets.{put_has, not_empty}
 use Rattle.qm_denot.proofs.PlaceLaws.{not_within, has-without}
@@ -21,7 +22,7 @@ use Rattle.qm_denot.proofs.LiveWires.{Lacks-from_absent, Distinct-push}
 use Rattle.qm_denot.proofs.PlainLaws.{keeps, reduced_list}
 
 -- ---- the start
-stands_start : (n : ℕ) (z : Zw) → value_of z ≡ one_number → StandsFor (plain_store n [] 0 (z ∷ [])) []
+stands_start : (n : ℕ) (z : Zw) → value_of z ≡ one_number → StandsFor (listed_store n [] 0 (z ∷ [])) []
 unfolding amp
 stands_start n z one = record {
   form = record { equal = λ x. ap (λ y. cond (is_empty x) y zero_number) one; reduced = inl refl };
@@ -36,8 +37,8 @@ module _ (ws : List Wire) (r : Bool) (xs zs : List Zw) (z : Zw) (none : ws ≡ [
   pub size_at_start : length zs ≡ 2 ^ length ws
   size_at_start = ap length one ∙ sym (ap (λ vs. 2 ^ length vs) none)
 
-  pub stands_at_start : (n : ℕ) → value_of z ≡ one_number → StandsFor (plain_store n ws 0 zs) []
-  stands_at_start n is = subst (λ ys. StandsFor (plain_store n ws 0 ys) []) (sym one) (subst (λ vs. StandsFor (plain_store n vs 0 (z ∷ [])) []) (sym none) (stands_start n z is))
+  pub stands_at_start : (n : ℕ) → value_of z ≡ one_number → StandsFor (listed_store n ws 0 zs) []
+  stands_at_start n is = subst (λ ys. StandsFor (listed_store n ws 0 ys) []) (sym one) (subst (λ vs. StandsFor (listed_store n vs 0 (z ∷ [])) []) (sym none) (stands_start n z is))
 
   pub keeps_at_start : Keeps ws zs 0
   keeps_at_start = subst (λ ys. Keeps ws ys 0) (sym one) (subst (λ vs. Keeps vs (z ∷ []) 0) (sym none) (keeps [] (z ∷ []) 0 tt refl (λ some. absurd (some refl))))
@@ -72,7 +73,7 @@ module _ (live : List Wire) (w : Wire) (zs new : List Zw) (k : ℕ) (kept : Keep
   lacked : Lacks live w
   lacked = Lacks-from_absent live w absent
 
-  value_fresh : (x : Wires) (b : Bool) → has x w ≡ b → plain_value (live ++ w ∷ []) new x ≡ plain_value live zs x
+  value_fresh : (x : Wires) (b : Bool) → has x w ≡ b → listed_value (live ++ w ∷ []) new x ≡ listed_value live zs x
   value_fresh x true one =
       let at = rw one at (index-push live w x) in
       let past : number_at zs (index_of (live ++ w ∷ []) x) ≡ zero_number = number_past zs (index_of (live ++ w ∷ []) x) (omega arith) in
@@ -84,9 +85,9 @@ module _ (live : List Wire) (w : Wire) (zs new : List Zw) (k : ℕ) (kept : Keep
       ap (λ b. cond b (number_at new (index_of (live ++ w ∷ []) x)) zero_number) same_within
       ∙ ap (λ z. cond (is_within x live) z zero_number) (numbers (index_of (live ++ w ∷ []) x) ∙ ap (number_at zs) same_index)
 
-  pub stands_fresh : (n : ℕ) (c : Circuit) → StandsFor (plain_store n live k zs) c → StandsFor (plain_store n (live ++ w ∷ []) k new) c
+  pub stands_fresh : (n : ℕ) (c : Circuit) → StandsFor (listed_store n live k zs) c → StandsFor (listed_store n (live ++ w ∷ []) k new) c
   stands_fresh n c stood =
-      let same : plain_value live zs ≡ plain_value (live ++ w ∷ []) new = fun_ext (λ x. sym (value_fresh x (has x w) refl)) in
+      let same : listed_value live zs ≡ listed_value (live ++ w ∷ []) new = fun_ext (λ x. sym (value_fresh x (has x w) refl)) in
       record { form = subst (λ (f : Amplitudes). IsReducedForm f k c) same stood.form; blank = λ v dead. stood.blank v (λ h. dead (Contains-append_left live (w ∷ []) v h)) }
 
   pub size_fresh : length new ≡ 2 ^ length (live ++ w ∷ [])

@@ -2,8 +2,7 @@
 use Rattle.std.proofs.Common.{◌≡◌, ℕ, zero, suc, ◌+◌, ◌-◌, ◌*◌, ◌/◌, ◌%◌, ◌^◌, ◌<◌, ◌≤◌, Bool, true, false, sym, ap, ◌∙◌, refl, arith}
 use Rattle.std.proofs.lemmas.Nat.{mod-pow-add}
 use Rattle.std.proofs.Math.Nat.{pow-suc, pow-succ', div-div-eq-div-mul}
-use Rattle.qm_denot.specs.Places.{bit_of, insert_place}
-use Rattle.qm_denot.specs.Plain.{HasPlace}
+use Rattle.qm_denot.specs.Places.{bit_of, insert_place, HasPlace}
 
 one_more : (a b p low r : ℕ) → r + 2 * ((a * 2 + b) * p + low) ≡ (a * 2 + b) * (p * 2) + (low * 2 + r)
 one_more a b p low r = omega arith

@@ -8,14 +8,14 @@ use Rattle.qm_zomega.proofs.Laws.Divisible.{IsDivisible-omega, IsDivisible-negat
 use Rattle.qm_denot.specs.declared.Wire.{Wire}
 use Rattle.qm_denot.specs.declared.Letter.{Letter}
 use Rattle.qm_denot.specs.declared.Letter.TheVariants.{Phase, Flip, Had, Cx, Cz, Keep}
-use Rattle.qm_denot.specs.declared.plain.rules.Rule.{Rule}
-use Rattle.qm_denot.specs.declared.plain.rules.Rule.TheVariants.{Phase as PhasePlaces, Flip as FlipPlaces, Cx as CxPlaces, Cz as CzPlaces, Keep as KeepPlaces}
 use Rattle.qm_denot.specs.Wires.{Wires, has, put, toggled}
 use Rattle.qm_denot.specs.WireLists.{Distinct}
 use Rattle.qm_denot.specs.Circuits.{Amplitudes, with_letter, same_bit, halves_of}
 use Rattle.qm_denot.specs.Stores.{live_after}
 use Rattle.qm_denot.specs.Places.{has_place, set_place, index_of, is_within, IsFirstAt}
-use Rattle.qm_denot.specs.Plain.{number_at, number_after, had_number, plain_value, plain_store, IsRewritten, Reduces, Does}
+use Rattle.qm_denot.specs.ListStores.{listed_value, listed_store, Does}
+use Rattle.qm_denot.specs.LettersByPlace.{phase_at, flip_at, cross_at, sign_at, keep_at, had_at}
+use Rattle.qm_zomega.specs.NumberLists.{number_at, IsListOf, Reduces}
 use Rattle.qm_denot.specs.Sound.{Keeps}
 use Rattle.qm_denot.proofs.Sets.{has-put_same, has-put_other, put_twice, put_has}
 use Rattle.qm_denot.proofs.PlaceLaws.{has-index, index-put, index_below, within-put}
@@ -53,9 +53,9 @@ module _ (live : List Wire) (zs made : List Zw) (distinct : Distinct live) (size
   index_within : (x : Wires) → index_of live x < length zs
   index_within x = subst (λ n. index_of live x < n) (sym size) (index_below live x)
 
-  -- the number of x in the new list, where the rule keeps the size
-  number_made : (r : Rule) → IsRewritten r zs made → length made ≡ length zs → (x : Wires) → number_at made (index_of live x) ≡ number_after r zs (index_of live x)
-  number_made r done same x = done.numbers (index_of live x) (subst (λ n. index_of live x < n) (sym same) (index_within x))
+  -- the number of x in a list of the same size
+  number_made : (g : ℕ → Number) → IsListOf made (length zs) g → (x : Wires) → number_at made (index_of live x) ≡ g (index_of live x)
+  number_made g done x = done.numbers (index_of live x) (index_within x)
 
   -- the number of x with a wire put in or out
   number-put : (p : ℕ) (w : Wire) (x : Wires) (b : Bool) → IsFirstAt live p w → number_at zs (set_place p b (index_of live x)) ≡ number_at zs (index_of live (put x w b))
@@ -66,50 +66,50 @@ module _ (live : List Wire) (zs made : List Zw) (distinct : Distinct live) (size
   number-toggled p w x at = ap (λ b. number_at zs (set_place p (not b) (index_of live x))) (has-index live p w x at) ∙ number-put p w x (not (has x w)) at
 
   -- what is put in or out does not change whether a set lies within
-  value-put : (p : ℕ) (w : Wire) (x : Wires) (b : Bool) → IsFirstAt live p w → cond (is_within x live) (number_at zs (index_of live (put x w b))) zero_number ≡ plain_value live zs (put x w b)
+  value-put : (p : ℕ) (w : Wire) (x : Wires) (b : Bool) → IsFirstAt live p w → cond (is_within x live) (number_at zs (index_of live (put x w b))) zero_number ≡ listed_value live zs (put x w b)
   value-put p w x b at = ap (λ t. cond t (number_at zs (index_of live (put x w b))) zero_number) (sym (within-put live p w x b at))
 
-  pub phase_value : (k p : ℕ) (w : Wire) → IsFirstAt live p w → IsRewritten (PhasePlaces k p) zs made → (x : Wires) → plain_value live made x ≡ with_letter (Phase k w) (plain_value live zs) x
+  pub phase_value : (k p : ℕ) (w : Wire) → IsFirstAt live p w → IsListOf made (length zs) (phase_at k p (number_at zs)) → (x : Wires) → listed_value live made x ≡ with_letter (Phase k w) (listed_value live zs) x
   phase_value k p w at done x =
       let z = number_at zs (index_of live x) in
       ap (λ n. cond (is_within x live) n zero_number)
-      (number_made (PhasePlaces k p) done done.size x ∙ ap (λ b. cond b (omega_times k z) z) (has-index live p w x at))
+      (number_made (phase_at k p (number_at zs)) done x ∙ ap (λ b. cond b (omega_times k z) z) (has-index live p w x at))
       ∙ phase_inside (is_within x live) (has x w) k z
 
-  pub flip_value : (p : ℕ) (w : Wire) → IsFirstAt live p w → IsRewritten (FlipPlaces p) zs made → (x : Wires) → plain_value live made x ≡ with_letter (Flip w) (plain_value live zs) x
+  pub flip_value : (p : ℕ) (w : Wire) → IsFirstAt live p w → IsListOf made (length zs) (flip_at p (number_at zs)) → (x : Wires) → listed_value live made x ≡ with_letter (Flip w) (listed_value live zs) x
   flip_value p w at done x =
-      ap (λ n. cond (is_within x live) n zero_number) (number_made (FlipPlaces p) done done.size x ∙ number-toggled p w x at)
+      ap (λ n. cond (is_within x live) n zero_number) (number_made (flip_at p (number_at zs)) done x ∙ number-toggled p w x at)
       ∙ value-put p w x (not (has x w)) at
 
-  pub cx_value : (p q : ℕ) (c t : Wire) → IsFirstAt live p c → IsFirstAt live q t → IsRewritten (CxPlaces p q) zs made → (x : Wires) → plain_value live made x ≡ with_letter (Cx c t) (plain_value live zs) x
+  pub cx_value : (p q : ℕ) (c t : Wire) → IsFirstAt live p c → IsFirstAt live q t → IsListOf made (length zs) (cross_at p q (number_at zs)) → (x : Wires) → listed_value live made x ≡ with_letter (Cx c t) (listed_value live zs) x
   cx_value p q c t at to done x =
       let z = number_at zs (index_of live x) in
       let y = number_at zs (index_of live (toggled x t)) in
       ap (λ n. cond (is_within x live) n zero_number)
-      (number_made (CxPlaces p q) done done.size x
+      (number_made (cross_at p q (number_at zs)) done x
       ∙ ap (λ b. cond b (number_at zs (set_place q (not (has_place q (index_of live x))) (index_of live x))) z) (has-index live p c x at)
       ∙ ap (λ n. cond (has x c) n z) (number-toggled q t x to))
       ∙ choice_inside (is_within x live) (has x c) y z
-      ∙ ap (λ n. cond (has x c) n (plain_value live zs x)) (value-put q t x (not (has x t)) to)
+      ∙ ap (λ n. cond (has x c) n (listed_value live zs x)) (value-put q t x (not (has x t)) to)
 
-  pub cz_value : (p q : ℕ) (c t : Wire) → IsFirstAt live p c → IsFirstAt live q t → IsRewritten (CzPlaces p q) zs made → (x : Wires) → plain_value live made x ≡ with_letter (Cz c t) (plain_value live zs) x
+  pub cz_value : (p q : ℕ) (c t : Wire) → IsFirstAt live p c → IsFirstAt live q t → IsListOf made (length zs) (sign_at p q (number_at zs)) → (x : Wires) → listed_value live made x ≡ with_letter (Cz c t) (listed_value live zs) x
   cz_value p q c t at to done x =
       let z = number_at zs (index_of live x) in
       ap (λ n. cond (is_within x live) n zero_number)
-      (number_made (CzPlaces p q) done done.size x
+      (number_made (sign_at p q (number_at zs)) done x
       ∙ ap (λ b. cond (b && has_place q (index_of live x)) (negative z) z) (has-index live p c x at)
       ∙ ap (λ b. cond (has x c && b) (negative z) z) (has-index live q t x to))
       ∙ cz_inside (is_within x live) (has x c && has x t) z
 
-  pub keep_value : (p : ℕ) (w : Wire) (m : Bool) → IsFirstAt live p w → IsRewritten (KeepPlaces p m) zs made → (x : Wires) → plain_value live made x ≡ with_letter (Keep w m) (plain_value live zs) x
+  pub keep_value : (p : ℕ) (w : Wire) (m : Bool) → IsFirstAt live p w → IsListOf made (length zs) (keep_at zero_number p m (number_at zs)) → (x : Wires) → listed_value live made x ≡ with_letter (Keep w m) (listed_value live zs) x
   keep_value p w m at done x =
       let z = number_at zs (index_of live x) in
       ap (λ n. cond (is_within x live) n zero_number)
-      (number_made (KeepPlaces p m) done done.size x ∙ ap (λ b. cond (same_bit b m) z zero_number) (has-index live p w x at))
+      (number_made (keep_at zero_number p m (number_at zs)) done x ∙ ap (λ b. cond (same_bit b m) z zero_number) (has-index live p w x at))
       ∙ keep_inside (is_within x live) (same_bit (has x w) m) z
 
   -- what `Had` makes of the value of x, by the number at its index
-  pub had_value : (p : ℕ) (w : Wire) → IsFirstAt live p w → (x : Wires) → cond (is_within x live) (had_number zs p (index_of live x)) zero_number ≡ with_letter (Had w) (plain_value live zs) x
+  pub had_value : (p : ℕ) (w : Wire) → IsFirstAt live p w → (x : Wires) → cond (is_within x live) (had_at p (number_at zs) (index_of live x)) zero_number ≡ with_letter (Had w) (listed_value live zs) x
   had_value p w at x =
       let z = number_at zs (index_of live x) in
       let low = number_at zs (index_of live (put x w false)) in
@@ -119,11 +119,11 @@ module _ (live : List Wire) (zs made : List Zw) (distinct : Distinct live) (size
       ∙ ap (λ n. cond (has x w) (n ⊖ z) (z ⊕ number_at zs (set_place p true (index_of live x)))) (number-put p w x false at)
       ∙ ap (λ n. cond (has x w) (low ⊖ z) (z ⊕ n)) (number-put p w x true at))
       ∙ had_inside (is_within x live) (has x w) low z high
-      ∙ ap (λ n. cond (has x w) (n ⊖ plain_value live zs x) (plain_value live zs x ⊕ cond (is_within x live) high zero_number)) (value-put p w x false at)
-      ∙ ap (λ n. cond (has x w) (plain_value live zs (put x w false) ⊖ plain_value live zs x) (plain_value live zs x ⊕ n)) (value-put p w x true at)
+      ∙ ap (λ n. cond (has x w) (n ⊖ listed_value live zs x) (listed_value live zs x ⊕ cond (is_within x live) high zero_number)) (value-put p w x false at)
+      ∙ ap (λ n. cond (has x w) (listed_value live zs (put x w false) ⊖ listed_value live zs x) (listed_value live zs x ⊕ n)) (value-put p w x true at)
 
-  pub value_had : (p : ℕ) (w : Wire) → IsFirstAt live p w → ((k : ℕ) → k < length zs → number_at made k ≡ had_number zs p k)
-      → (x : Wires) → plain_value live made x ≡ with_letter (Had w) (plain_value live zs) x
+  pub value_had : (p : ℕ) (w : Wire) → IsFirstAt live p w → ((k : ℕ) → k < length zs → number_at made k ≡ had_at p (number_at zs) k)
+      → (x : Wires) → listed_value live made x ≡ with_letter (Had w) (listed_value live zs) x
   value_had p w at numbers x = ap (λ n. cond (is_within x live) n zero_number) (numbers (index_of live x) (index_within x)) ∙ had_value p w at x
 
 -- ---- where root2 divides what such a letter made, it divided what there was
@@ -167,21 +167,21 @@ pub cz_before : (c t : Wire) → DividesBefore (Cz c t)
 cz_before c t f all x = negative_before (has x c && has x t) (f x) (all x)
 
 module _ (l : Letter) (live : List Wire) (k : ℕ) (zs made : List Zw) (size : length made ≡ 2 ^ length live) (kept : Keeps live zs k)
-    (letter : (x : Wires) → plain_value live made x ≡ with_letter l (plain_value live zs) x) (before : DividesBefore l) where
+    (letter : (x : Wires) → listed_value live made x ≡ with_letter l (listed_value live zs) x) (before : DividesBefore l) where
   -- such a letter leaves a reduced vector
   pub keeps_turned : Keeps live made k
   keeps_turned = keeps live made k kept.distinct size (λ some all. kept.reduced some
-      (over_from_all live (plain_value live zs) (before (plain_value live zs) (λ x. subst IsDivisible (letter x) (value_divisible live made all x)))))
+      (over_from_all live (listed_value live zs) (before (listed_value live zs) (λ x. subst IsDivisible (letter x) (value_divisible live made all x)))))
 
-  pub does_turned : (n : ℕ) → k + halves_of l ≡ k → live ≡ live_after l live → Does l (plain_store n live k zs) (plain_store n live k made)
+  pub does_turned : (n : ℕ) → k + halves_of l ≡ k → live ≡ live_after l live → Does l (listed_store n live k zs) (listed_store n live k made)
   does_turned n none lives =
       does_letter l n live live k k zs made made keeps_turned lives (rw none (Reduces-itself made k (reduced_list live made k keeps_turned))) letter
 
 module _ (l : Letter) (live : List Wire) (k m : ℕ) (zs made new : List Zw) (size : length made ≡ 2 ^ length live) (kept : Keeps live zs k)
-    (letter : (x : Wires) → plain_value live made x ≡ with_letter l (plain_value live zs) x) (reduces : Reduces made (k + halves_of l) new m) where
+    (letter : (x : Wires) → listed_value live made x ≡ with_letter l (listed_value live zs) x) (reduces : Reduces made (k + halves_of l) new m) where
   -- any other letter that keeps the live wires leaves what `reduce` makes of its numbers
   pub keeps_reduced : Keeps live new m
   keeps_reduced = keeps live new m kept.distinct (reduces.size ∙ size) reduces.reduced
 
-  pub does_reduced : (n : ℕ) → live ≡ live_after l live → Does l (plain_store n live k zs) (plain_store n live m new)
+  pub does_reduced : (n : ℕ) → live ≡ live_after l live → Does l (listed_store n live k zs) (listed_store n live m new)
   does_reduced n lives = does_letter l n live live k m zs made new keeps_reduced lives reduces letter

@@ -4,21 +4,12 @@ use Rattle.qm_denot.specs.declared.Wire.{Wire}
 use Rattle.qm_denot.specs.declared.Letter.{Letter}
 use Rattle.qm_denot.specs.Weights.{operands}
 use Rattle.qm_denot.specs.Circuits.{Amplitudes, Circuit, with_letter, with_letters, amp, halves_of, halvings, IsEqualUpTo}
+use Rattle.qm_denot.specs.Tags.{Tagged, letters_of, letters_with, tagged, without_key}
 use Rattle.qm_denot.proofs.Agreement.{LettersApart}
 use Rattle.qm_denot.proofs.Amplitudes.{with_letters-append, halvings-append}
 use Rattle.qm_denot.proofs.Commuting.{with_letters_swap-one}
 use Rattle.qm_denot.proofs.EqualUpTo.{equal_append, equal_trans, equal_after_same}
-use Rattle.qm_denot.proofs.Shuffles.{Tagged, letters_of, letters_with, BelongTo, IsParted, apart_foreign, different_keys, either_way}
-
--- the letters, all with the key k
-abbrev pub tagged : {K : Type 0} → K → List Letter → Tagged K
-tagged k [] = []
-tagged k (l ∷ ls) = (k, l) ∷ tagged k ls
-
--- what has other keys than k
-abbrev pub without_key : {K : Type 0} → (K → K → Bool) → K → Tagged K → Tagged K
-without_key same k [] = []
-without_key same k (t ∷ ts) = cond (same k t.0) (without_key same k ts) (t ∷ without_key same k ts)
+use Rattle.qm_denot.proofs.Shuffles.{BelongTo, IsParted, apart_foreign, different_keys, either_way}
 
 -- the letters of a list and of one after it
 pub letters_of-append : {K : Type 0} (ds es : Tagged K) → letters_of (ds ++ es) ≡ letters_of ds ++ letters_of es

@@ -6,9 +6,11 @@ pub mod Forms
 pub mod Linear
 pub mod Support
 pub mod Commuting
+pub mod OperandFacts
 pub mod EqualUpTo
 pub mod Shuffles
 pub mod Keys
+pub mod Partings
 pub mod Inverses
 pub mod Transfers
 pub mod Listed
@@ -16,6 +18,7 @@ pub mod Stores
 pub mod Unique
 pub mod Totals
 pub mod Weights
+pub mod ReducedUpTo
 pub mod Copies
 pub mod Parities
 pub mod Moves
@@ -36,3 +39,5 @@ pub mod OverflowLaws
 pub mod TakeLaws
 pub mod RenameLaws
 pub mod PairLaws
+pub mod Searches
+pub mod ReducedForms

@@ -45,7 +45,7 @@ pub record IndexSoFar (live : List Wire) (x : Wires) (k : ℕ) : Type 0 where
   pub value : k ≡ index_of live x
   pub within : is_within x live ≡ true
 
-with_wires-push : (ws : List Wire) (w : Wire) (x : Wires) → with_wires (ws ++ w ∷ []) x ≡ put (with_wires ws x) w true
+pub with_wires-push : (ws : List Wire) (w : Wire) (x : Wires) → with_wires (ws ++ w ∷ []) x ≡ put (with_wires ws x) w true
 with_wires-push [] w x = refl
 with_wires-push (v ∷ ws) w x = with_wires-push ws w (put x v true)
 

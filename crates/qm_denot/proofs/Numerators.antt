@@ -4,7 +4,7 @@ use Rattle.std.proofs.lemmas.List.{take_all}
 use Rattle.qm_zomega.specs.declared.Zw.{Zw}
 use Rattle.qm_zomega.specs.Zw.{value_of}
 use Rattle.qm_zomega.specs.Numbers.{Number, zero_number}
-use Rattle.qm_denot.specs.Plain.{number_at}
+use Rattle.qm_zomega.specs.NumberLists.{number_at}
 
 pub number_at_read : (zs : List Zw) (i : ℕ) (d : Zw) → i < length zs → number_at zs i ≡ value_of (get_or zs i d)
 number_at_read [] i d h = absurd (omega arith)

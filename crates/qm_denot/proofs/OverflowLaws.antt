@@ -11,7 +11,9 @@ use Rattle.qm_denot.specs.WireLists.{Distinct}
 use Rattle.qm_denot.specs.Circuits.{Amplitudes, with_letter}
 use Rattle.qm_denot.specs.Stores.{Overflows}
 use Rattle.qm_denot.specs.Places.{index_of, is_within, IsFirstAt}
-use Rattle.qm_denot.specs.Plain.{had_number, plain_value, plain_store}
+use Rattle.qm_denot.specs.LettersByPlace.{had_at}
+use Rattle.qm_denot.specs.ListStores.{listed_value, listed_store}
+use Rattle.qm_zomega.specs.NumberLists.{number_at}
 use Rattle.qm_denot.proofs.Sets.{has-put_same, put_twice, put_has}
 use Rattle.qm_denot.proofs.PlaceLaws.{index_below, set_at, index-set_at, within-set_at}
 use Rattle.qm_denot.proofs.KeepingLaws.{had_value}
@@ -27,35 +29,35 @@ had_with w f x none =
 
 module _ (live : List Wire) (zs : List Zw) (distinct : Distinct live) (size : length zs ≡ 2 ^ length live) (p : ℕ) (w : Wire) (at : IsFirstAt live p w) (n k : ℕ) where
   -- what `Had` makes of the value of the set with an index
-  made_at : (i : ℕ) → i < length zs → with_letter (Had w) (plain_value live zs) (set_at live i) ≡ had_number zs p i
+  made_at : (i : ℕ) → i < length zs → with_letter (Had w) (listed_value live zs) (set_at live i) ≡ had_at p (number_at zs) i
   made_at i h =
       let x = set_at live i in
       sym (had_value live zs zs distinct size p w at x)
-      ∙ ap (λ b. cond b (had_number zs p (index_of live x)) zero_number) (within-set_at live i distinct)
-      ∙ ap (had_number zs p) (index-set_at live i distinct (subst (λ n. i < n) size h))
+      ∙ ap (λ b. cond b (had_at p (number_at zs) (index_of live x)) zero_number) (within-set_at live i distinct)
+      ∙ ap (had_at p (number_at zs)) (index-set_at live i distinct (subst (λ n. i < n) size h))
 
-  bad_set : (x : Wires) (b : Bool) → has x w ≡ b → ¬ (FitsZw (with_letter (Had w) (plain_value live zs) x)) → Overflows (Had w) (plain_store n live k zs)
-  bad_set x false none bad = (x, none, λ fits. bad (subst FitsZw (sym (had_without w (plain_value live zs) x none)) fits.0))
+  bad_set : (x : Wires) (b : Bool) → has x w ≡ b → ¬ (FitsZw (with_letter (Had w) (listed_value live zs) x)) → Overflows (Had w) (listed_store n live k zs)
+  bad_set x false none bad = (x, none, λ fits. bad (subst FitsZw (sym (had_without w (listed_value live zs) x none)) fits.0))
   bad_set x true one bad =
       let y = put x w false in
       let none : has y w ≡ false = has-put_same x w false in
       let back : put y w true ≡ x = put_twice x w false true ∙ put_has x w true one in
-      (y, none, λ fits. bad (subst (λ t. FitsZw (with_letter (Had w) (plain_value live zs) t)) back (subst FitsZw (sym (had_with w (plain_value live zs) y none)) fits.1)))
+      (y, none, λ fits. bad (subst (λ t. FitsZw (with_letter (Had w) (listed_value live zs) t)) back (subst FitsZw (sym (had_with w (listed_value live zs) y none)) fits.1)))
 
-  pub overflows_where_unfit : (i : ℕ) × (i < length zs) × ¬ (FitsZw (had_number zs p i)) → Overflows (Had w) (plain_store n live k zs)
+  pub overflows_where_unfit : (i : ℕ) × (i < length zs) × ¬ (FitsZw (had_at p (number_at zs) i)) → Overflows (Had w) (listed_store n live k zs)
   overflows_where_unfit (i, h, unfit) = bad_set (set_at live i) (has (set_at live i) w) refl (λ fits. unfit (subst FitsZw (made_at i h) fits))
 
-  module _ (fit : (i : ℕ) → i < length zs → FitsZw (had_number zs p i)) where
-    each_fits : (x : Wires) → FitsZw (with_letter (Had w) (plain_value live zs) x)
+  module _ (fit : (i : ℕ) → i < length zs → FitsZw (had_at p (number_at zs) i)) where
+    each_fits : (x : Wires) → FitsZw (with_letter (Had w) (listed_value live zs) x)
     each_fits x =
         subst FitsZw (had_value live zs zs distinct size p w at x)
-        (elim (is_within x live) as (λ b. FitsZw (cond b (had_number zs p (index_of live x)) zero_number)) [
+        (elim (is_within x live) as (λ b. FitsZw (cond b (had_at p (number_at zs) (index_of live x)) zero_number)) [
           | true ↦ fit (index_of live x) (subst (λ n. index_of live x < n) (sym size) (index_below live x))
           | false ↦ FitsZw-zero
         ])
 
-    pub never_overflows : ¬ (Overflows (Had w) (plain_store n live k zs))
+    pub never_overflows : ¬ (Overflows (Had w) (listed_store n live k zs))
     never_overflows (x, none, unfit) = unfit (
-      subst FitsZw (had_without w (plain_value live zs) x none) (each_fits x),
-      subst FitsZw (had_with w (plain_value live zs) x none) (each_fits (put x w true)),
+      subst FitsZw (had_without w (listed_value live zs) x none) (each_fits x),
+      subst FitsZw (had_with w (listed_value live zs) x none) (each_fits (put x w true)),
     )

@@ -6,12 +6,13 @@ use Rattle.qm_zomega.specs.declared.Zw.{Zw}
 use Rattle.qm_zomega.specs.Numbers.{Number, zero_number}
 use Rattle.qm_denot.specs.declared.Wire.{Wire}
 use Rattle.qm_denot.specs.declared.Letter.TheVariants.{Pair}
-use Rattle.qm_denot.specs.declared.plain.rules.Rule.TheVariants.{Pair as PairPlaces}
 use Rattle.qm_denot.specs.Wires.{Wires, has, put}
 use Rattle.qm_denot.specs.WireLists.{Lacks, Distinct}
 use Rattle.qm_denot.specs.Circuits.{with_letter, same_bit}
 use Rattle.qm_denot.specs.Places.{set_place, index_of, is_within, IsFirstAt}
-use Rattle.qm_denot.specs.Plain.{number_at, plain_value, plain_store, number_after, IsRewritten, Reduces, Does}
+use Rattle.qm_denot.specs.ListStores.{listed_value, listed_store, Does}
+use Rattle.qm_denot.specs.LettersByPlace.{pair_at}
+use Rattle.qm_zomega.specs.NumberLists.{number_at, IsListOf, Reduces}
 use Rattle.qm_denot.specs.Sound.{Keeps}
 use Rattle.qm_denot.proofs.Sets.{has-put_same, has-put_other}
 use Rattle.qm_denot.proofs.PlaceLaws.{has-index, index-put, index_below, within-put}
@@ -73,7 +74,7 @@ cleared_below n k h =
 
 -- ---- the numbers after `Pair`
 module _ (ws : List Wire) (a b : Wire) (old new : List Zw) (d : Distinct ws) (la : Lacks ws a) (lb : Lacks ws b) (ne : a ≢ b)
-    (made : (k : ℕ) → k < 2 ^ length (with_two ws a b) → number_at new k ≡ number_after (PairPlaces (length ws)) old k) where
+    (made : (k : ℕ) → k < 2 ^ length (with_two ws a b) → number_at new k ≡ pair_at zero_number (length ws) (number_at old) k) where
   distinct : Distinct (with_two ws a b)
   distinct = distinct_two ws a b d la lb ne
 
@@ -99,7 +100,7 @@ module _ (ws : List Wire) (a b : Wire) (old new : List Zw) (d : Distinct ws) (la
       ∙ index-put (with_two ws a b) (length ws + 1) b (put x a false) false distinct second
       ∙ ap (set_place (length ws + 1) false) (index-put (with_two ws a b) (length ws) a x false distinct first)
 
-  value_paired : (x : Wires) → plain_value (with_two ws a b) new x ≡ with_letter (Pair a b) (plain_value ws old) x
+  value_paired : (x : Wires) → listed_value (with_two ws a b) new x ≡ with_letter (Pair a b) (listed_value ws old) x
   value_paired x =
       let k = index_of (with_two ws a b) x in
       let n = length ws in
@@ -116,7 +117,7 @@ module _ (ws : List Wire) (a b : Wire) (old new : List Zw) (d : Distinct ws) (la
 
 -- ---- what the store keeps
 module _ (live : List Wire) (a b : Wire) (k j : ℕ) (zs made new : List Zw) (kept : Keeps live zs k) (size : length zs ≡ 2 ^ length live)
-    (no_a : ¬ (Contains live a)) (no_b : ¬ (Contains live b)) (ne : a ≢ b) (done : IsRewritten (PairPlaces (length live)) zs made) (reduces : Reduces made (k + 1) new j) where
+    (no_a : ¬ (Contains live a)) (no_b : ¬ (Contains live b)) (ne : a ≢ b) (done : IsListOf made (length zs * 4) (pair_at zero_number (length live) (number_at zs))) (reduces : Reduces made (k + 1) new j) where
   lacks_a : Lacks live a
   lacks_a = Lacks-from_absent live a no_a
 
@@ -131,8 +132,8 @@ module _ (live : List Wire) (a b : Wire) (k j : ℕ) (zs made new : List Zw) (ke
   pub keeps_paired : Keeps (with_two live a b) new j
   keeps_paired = keeps (with_two live a b) new j (distinct_two live a b kept.distinct lacks_a lacks_b ne) size_paired reduces.reduced
 
-  pub does_paired : (n : ℕ) → Does (Pair a b) (plain_store n live k zs) (plain_store n (with_two live a b) j new)
+  pub does_paired : (n : ℕ) → Does (Pair a b) (listed_store n live k zs) (listed_store n (with_two live a b) j new)
   does_paired n =
       does_letter (Pair a b) n live (with_two live a b) k j zs made new keeps_paired refl reduces
       (value_paired live a b zs made kept.distinct lacks_a lacks_b ne
-      (λ i h. done.numbers i (let e = size_paired in let s = reduces.size in rw (← s, e) h)))
+      (λ i h. done.numbers i (let e = size_paired in let s = reduces.size in let t = done.size in rw (← t, ← s, e) h)))

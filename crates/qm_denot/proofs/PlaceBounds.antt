@@ -4,8 +4,7 @@ use Rattle.std.proofs.lemmas.Bool.{cases_lt}
 use Rattle.std.proofs.lemmas.Nat.{pow_pos}
 use Rattle.std.proofs.Math.Nat.{pow-suc}
 use Rattle.std.proofs.Math.Pow.{pow_mono}
-use Rattle.qm_denot.specs.Places.{set_place}
-use Rattle.qm_denot.specs.Plain.{HasPlace}
+use Rattle.qm_denot.specs.Places.{set_place, HasPlace}
 use Rattle.qm_denot.proofs.PlaceLaws.{set_place_below}
 
 -- a list of limited size has few places

@@ -6,14 +6,15 @@ use Rattle.qm_zomega.proofs.Laws.Powers.{root2_times-more, root2_times-zero}
 use Rattle.qm_denot.specs.declared.Wire.{Wire}
 use Rattle.qm_denot.specs.Wires.{Wires}
 use Rattle.qm_denot.specs.Places.{index_of, is_within}
-use Rattle.qm_denot.specs.Plain.{number_at, plain_value, Reduces, IsReducedList}
+use Rattle.qm_denot.specs.ListStores.{listed_value}
+use Rattle.qm_zomega.specs.NumberLists.{number_at, Reduces, IsReducedList}
 
 module _ (made new : List Zw) (k m : ℕ) (reduces : Reduces made k new m) where
   -- the values over root2^m are those over root2^k
-  pub plain_value-reduced : (live : List Wire) (x : Wires) → root2_times k (plain_value live new x) ≡ root2_times m (plain_value live made x)
-  plain_value-reduced live x =
+  pub listed_value-reduced : (live : List Wire) (x : Wires) → root2_times k (listed_value live new x) ≡ root2_times m (listed_value live made x)
+  listed_value-reduced live x =
       let apart : k ≡ m + (k - m) = let h = reduces.lower in omega arith in
-      ap (λ n. root2_times n (plain_value live new x)) apart ∙ root2_times-more m (k - m) (plain_value live new x)
+      ap (λ n. root2_times n (listed_value live new x)) apart ∙ root2_times-more m (k - m) (listed_value live new x)
       ∙ ap (root2_times m) (elim (is_within x live) as (λ b. root2_times (k - m) (cond b (number_at new (index_of live x)) zero_number) ≡ cond b (number_at made (index_of live x)) zero_number) [
         | true ↦ reduces.same (index_of live x)
         | false ↦ root2_times-zero (k - m)

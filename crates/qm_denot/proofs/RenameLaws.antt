@@ -8,7 +8,7 @@ use Rattle.qm_denot.specs.Wires.{Wires, has, put, is_empty, is_wire}
 use Rattle.qm_denot.specs.WireLists.{Lacks, Distinct, with_renamed}
 use Rattle.qm_denot.specs.Circuits.{with_letter}
 use Rattle.qm_denot.specs.Places.{index_of, without, is_within, IsFirstAt}
-use Rattle.qm_denot.specs.Plain.{plain_value, plain_store, Does}
+use Rattle.qm_denot.specs.ListStores.{listed_value, listed_store, Does}
 use Rattle.qm_denot.specs.Sound.{Keeps}
 use Rattle.qm_denot.proofs.Sets.{has-put_same, has-put_other, put_twice, put_swap, put_has, is_wire_itself, is_wire_other}
 use Rattle.qm_denot.proofs.NameLists.{not_sym}
@@ -94,13 +94,13 @@ without-renamed (v ∷ ws) (suc p) a b x d at l ne none =
 
 -- the numbers after `Rename`
 value_renamed : (ws : List Wire) (p : ℕ) (a b : Wire) (zs : List Zw) → Distinct ws → IsFirstAt ws p a → Lacks ws b → a ≢ b
-    → (x : Wires) → plain_value (with_renamed ws a b) zs x ≡ with_letter (Rename a b) (plain_value ws zs) x
+    → (x : Wires) → listed_value (with_renamed ws a b) zs x ≡ with_letter (Rename a b) (listed_value ws zs) x
 value_renamed ws p a b zs d at l ne x = by_bit (has x a) refl
   where
     live : List Wire
     live = with_renamed ws a b
 
-    by_bit : (t : Bool) → has x a ≡ t → plain_value live zs x ≡ cond t zero_number (plain_value ws zs (renamed_back x a b))
+    by_bit : (t : Bool) → has x a ≡ t → listed_value live zs x ≡ cond t zero_number (listed_value ws zs (renamed_back x a b))
     by_bit true one = let e = not_within live a x (lacks_old ws p a b d at (not_sym ne)) one in rw e refl
     by_bit false none =
         let within : is_within x live ≡ is_within (renamed_back x a b) ws = ap is_empty (without-renamed ws p a b x d at l ne none) in
@@ -124,8 +124,8 @@ module _ (live : List Wire) (p : ℕ) (a b : Wire) (k : ℕ) (zs : List Zw) (kep
       (keeps (with_renamed live a b) zs k (distinct_renamed live p a b kept.distinct at lacking)
       (size ∙ ap (λ n. 2 ^ n) (sym (length-renamed live a b))) (reduced_list live zs k kept))
 
-  pub does_renamed : (n : ℕ) → Does (Rename a b) (plain_store n live k zs) (plain_store n (set live p b) k zs)
+  pub does_renamed : (n : ℕ) → Does (Rename a b) (listed_store n live k zs) (listed_store n (set live p b) k zs)
   does_renamed n =
       let none : k + 0 ≡ k = omega arith in
       does_letter (Rename a b) n live (set live p b) k k zs zs zs keeps_renamed written (rw none (Reduces-itself zs k (reduced_list live zs k kept)))
-      (λ x. ap (λ ws. plain_value ws zs x) written ∙ value_renamed live p a b zs kept.distinct at lacking differ x)
+      (λ x. ap (λ ws. listed_value ws zs x) written ∙ value_renamed live p a b zs kept.distinct at lacking differ x)

@@ -1,5 +1,5 @@
--- The laws of finite sets of wires. Nothing above this file opens `has`, `put` or `is_empty`
-use Rattle.std.proofs.Common.{◌≡◌, ◌≢◌, ℕ, Bool, true, false, not, ◌&&◌, ◌||◌, cond, refl, sym, ap, ◌∙◌, subst, arith}
+-- The laws of finite sets of wires. Nothing above this file opens `has`, `put`, `how_many` or `is_empty`
+use Rattle.std.proofs.Common.{◌≡◌, ◌≢◌, ℕ, ◌+◌, ◌≤◌, Bool, true, false, not, ◌&&◌, ◌||◌, cond, refl, sym, ap, ◌∙◌, subst, arith}
 use Rattle.std.specs.Ordering.{nat_cmp, bool_cmp, eq_by_cmp, is_eq}
 use Rattle.std.specs.Cmp.{IsTotalOrder, nat_cmp_total, bool_cmp_total, tied_itself}
 use Rattle.std.proofs.lemmas.Cmp.{on_total, then_total}
@@ -8,7 +8,7 @@ use Rattle.std.proofs.lemmas.Map.Views.{tells_apart}
 use Rattle.std.proofs.lemmas.Bool.Decides.{nat_tests}
 use Rattle.std.specs.FinSet as set
 use Rattle.qm_denot.specs.declared.Wire.{Wire}
-use Rattle.qm_denot.specs.Wires.{wire_cmp, is_wire, Wires, no_wires, has, put, is_empty}
+use Rattle.qm_denot.specs.Wires.{wire_cmp, is_wire, Wires, no_wires, has, put, how_many, is_empty}
 
 total : IsTotalOrder wire_cmp
 total = then_total (on_total (λ w. w.rank) nat_cmp_total) (then_total (on_total (λ w. w.made) nat_cmp_total) (on_total (λ w. w.near) bool_cmp_total))
@@ -120,3 +120,25 @@ not_empty x w h = elim (is_empty x) as (λ b. is_empty x ≡ b → b ≡ false) 
   | true ↦ λ e. let p : has no_wires w ≡ true = subst (λ y. has y w ≡ true) (empty_from_is x e) h in let q = has-no_wires w in cc
   | false ↦ λ e. refl
 ] refl
+
+-- ---- how many wires a set has
+pub how_many-no_wires : how_many no_wires ≡ 0
+unfolding how_many
+how_many-no_wires = set.len-empty wire_cmp
+
+-- one more where a wire comes
+pub how_many-more : (x : Wires) (w : Wire) → has x w ≡ false → how_many (put x w true) ≡ how_many x + 1
+unfolding how_many put has
+how_many-more x w e = set.len-insert total x w ∙ ap (λ b. cond b (set.len x) (set.len x + 1)) e
+
+-- one less where one goes
+pub how_many-less : (x : Wires) (w : Wire) → has x w ≡ true → how_many x ≡ how_many (put x w false) + 1
+how_many-less x w e = ap how_many (sym (put_twice x w false true ∙ put_has x w true e)) ∙ how_many-more (put x w false) w (has-put_same x w false)
+
+-- no more, whether the wire was there or not
+pub how_many-fewer : (x : Wires) (w : Wire) → how_many (put x w false) ≤ how_many x
+how_many-fewer x w = by_there (has x w) refl
+  where
+    by_there : (b : Bool) → has x w ≡ b → how_many (put x w false) ≤ how_many x
+    by_there true e = let less = how_many-less x w e in omega arith
+    by_there false e = let same = ap how_many (put_has x w false e) in omega arith

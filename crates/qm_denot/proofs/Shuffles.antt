@@ -7,21 +7,9 @@ use Rattle.qm_denot.specs.declared.Letter.{Letter}
 use Rattle.qm_denot.specs.WireLists.{Lacks}
 use Rattle.qm_denot.specs.Weights.{operands}
 use Rattle.qm_denot.specs.Circuits.{Amplitudes, with_letter, with_letters, halves_of, halvings}
+use Rattle.qm_denot.specs.Tags.{Tagged, letters_of, letters_with}
 use Rattle.qm_denot.proofs.Agreement.{Apart}
 use Rattle.qm_denot.proofs.Commuting.{with_letter_swap}
-
--- letters, each with its key
-abbrev pub Tagged : Type 0 → Type 0
-Tagged K = List (K × Letter)
-
-abbrev pub letters_of : {K : Type 0} → Tagged K → List Letter
-letters_of [] = []
-letters_of (t ∷ ts) = t.1 ∷ letters_of ts
-
--- the letters with the key k, in their order
-abbrev pub letters_with : {K : Type 0} → (K → K → Bool) → K → Tagged K → List Letter
-letters_with same k [] = []
-letters_with same k (t ∷ ts) = cond (same k t.0) (t.1 ∷ letters_with same k ts) (letters_with same k ts)
 
 -- each wire of the list belongs to k
 abbrev pub BelongTo : {K : Type 0} → (Wire → Option K) → K → List Wire → Type 0

@@ -6,12 +6,13 @@ use Rattle.qm_zomega.specs.declared.Zw.{Zw}
 use Rattle.qm_zomega.specs.Numbers.{zero_number}
 use Rattle.qm_denot.specs.declared.Wire.{Wire}
 use Rattle.qm_denot.specs.declared.Letter.TheVariants.{Take}
-use Rattle.qm_denot.specs.declared.plain.rules.Rule.TheVariants.{Take as TakePlace}
 use Rattle.qm_denot.specs.Wires.{Wires, has, put, is_empty}
 use Rattle.qm_denot.specs.WireLists.{Lacks, Distinct, without_wire}
 use Rattle.qm_denot.specs.Circuits.{with_letter}
 use Rattle.qm_denot.specs.Places.{insert_place, index_of, without, is_within, IsFirstAt}
-use Rattle.qm_denot.specs.Plain.{number_at, plain_value, plain_store, number_after, IsRewritten, Reduces, Does}
+use Rattle.qm_denot.specs.ListStores.{listed_value, listed_store, Does}
+use Rattle.qm_denot.specs.LettersByPlace.{take_at}
+use Rattle.qm_zomega.specs.NumberLists.{number_at, IsListOf, Reduces}
 use Rattle.qm_denot.specs.Sound.{Keeps}
 use Rattle.qm_denot.proofs.Sets.{has-put_same, has-put_other, put_twice, put_swap, put_has, is_wire_itself, is_wire_other}
 use Rattle.qm_denot.proofs.NameLists.{not_sym, without_wire-lacked, Lacks-without_wire_itself, Distinct-without_wire}
@@ -64,14 +65,14 @@ without-taken (v ∷ ws) (suc p) w x m d at none =
 
 -- the numbers after `Take`
 value_taken : (ws : List Wire) (p : ℕ) (w : Wire) (m : Bool) (old new : List Zw) → Distinct ws → IsFirstAt ws p w
-    → ((k : ℕ) → k < 2 ^ length (without_wire ws w) → number_at new k ≡ number_after (TakePlace p m) old k)
-    → (x : Wires) → plain_value (without_wire ws w) new x ≡ with_letter (Take w m) (plain_value ws old) x
+    → ((k : ℕ) → k < 2 ^ length (without_wire ws w) → number_at new k ≡ take_at p m (number_at old) k)
+    → (x : Wires) → listed_value (without_wire ws w) new x ≡ with_letter (Take w m) (listed_value ws old) x
 value_taken ws p w m old new d at made x = by_bit (has x w) refl
   where
     live : List Wire
     live = without_wire ws w
 
-    by_bit : (b : Bool) → has x w ≡ b → plain_value live new x ≡ cond b zero_number (plain_value ws old (put x w m))
+    by_bit : (b : Bool) → has x w ≡ b → listed_value live new x ≡ cond b zero_number (listed_value ws old (put x w m))
     by_bit true one = let e = not_within live w x (Lacks-without_wire_itself ws w) one in rw e refl
     by_bit false none =
         let within : is_within (put x w m) ws ≡ is_within x live = ap is_empty (without-taken ws p w x m d at none) in
@@ -81,7 +82,7 @@ value_taken ws p w m old new d at made x = by_bit (has x w) refl
 
 -- ---- what the store keeps
 module _ (live : List Wire) (p : ℕ) (w : Wire) (m : Bool) (k j : ℕ) (zs made new : List Zw) (kept : Keeps live zs k) (size : length zs ≡ 2 ^ length live)
-    (at : IsFirstAt live p w) (done : IsRewritten (TakePlace p m) zs made) (reduces : Reduces made k new j) where
+    (at : IsFirstAt live p w) (done : IsListOf made (length zs / 2) (take_at p m (number_at zs))) (reduces : Reduces made k new j) where
   removed : remove live p ≡ without_wire live w
   removed = remove-place live p w kept.distinct at
 
@@ -97,10 +98,10 @@ module _ (live : List Wire) (p : ℕ) (w : Wire) (m : Bool) (k j : ℕ) (zs made
   pub keeps_taken : Keeps (remove live p) new j
   keeps_taken = keeps (remove live p) new j (subst Distinct (sym removed) (Distinct-without_wire live w kept.distinct)) size_taken reduces.reduced
 
-  pub does_taken : (n : ℕ) → Does (Take w m) (plain_store n live k zs) (plain_store n (remove live p) j new)
+  pub does_taken : (n : ℕ) → Does (Take w m) (listed_store n live k zs) (listed_store n (remove live p) j new)
   does_taken n =
       let none : k + 0 ≡ k = omega arith in
       does_letter (Take w m) n live (remove live p) k j zs made new keeps_taken removed (rw none reduces)
-      (λ x. ap (λ ws. plain_value ws made x) removed
+      (λ x. ap (λ ws. listed_value ws made x) removed
       ∙ value_taken live p w m zs made kept.distinct at
-      (λ i h. done.numbers i (let e = size_taken in let s = reduces.size in let r : length (remove live p) ≡ length (without_wire live w) = ap length removed in rw (← s, e, r) h)) x)
+      (λ i h. done.numbers i (let e = size_taken in let s = reduces.size in let t = done.size in let r : length (remove live p) ≡ length (without_wire live w) = ap length removed in rw (← t, ← s, e, r) h)) x)

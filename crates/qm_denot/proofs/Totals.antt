@@ -17,7 +17,7 @@ pub total-le : (ws : List Wire) (f g : Wires → ℕ) (x : Wires) → ((y : Wire
 total-le [] f g x below = below x
 total-le (w ∷ ws) f g x below = let p = total-le ws f g (put x w false) below in let q = total-le ws f g (put x w true) below in omega arith
 
-total-plus : (ws : List Wire) (f g : Wires → ℕ) (x : Wires) → total ws (λ y. f y + g y) x ≡ total ws f x + total ws g x
+pub total-plus : (ws : List Wire) (f g : Wires → ℕ) (x : Wires) → total ws (λ y. f y + g y) x ≡ total ws f x + total ws g x
 total-plus [] f g x = refl
 total-plus (w ∷ ws) f g x = omega (arith, total-plus ws f g (put x w false), total-plus ws f g (put x w true))
 

@@ -13,7 +13,7 @@ use Rattle.qm_denot.specs.Weights.{total, operands, also, names, weight}
 use Rattle.qm_denot.specs.CircuitFacts.{IsProper, AllProper, IsNonzero}
 use Rattle.qm_denot.proofs.Sets.{has-put_same, has-put_other, put_twice, put_swap, has-no_wires, is_empty-no_wires}
 use Rattle.qm_denot.proofs.NameLists.{not_sym, HasAll, Lacks-where_also, Distinct-also, Distinct-names, Lacks-where_names_append}
-use Rattle.qm_denot.proofs.Totals.{total-same, total-times, total-le_locally, total-same_locally, total-any, term_below_total, term_of_total}
+use Rattle.qm_denot.proofs.Totals.{total-same, total-plus, total-times, total-le_locally, total-same_locally, total-any, term_below_total, term_of_total}
 use Rattle.qm_denot.proofs.Amplitudes.{amp-push}
 use Rattle.qm_denot.proofs.Support.{IsBlank-unnamed}
 use Rattle.qm_denot.proofs.Parities.{with_letter-take_blank}
@@ -180,6 +180,29 @@ amp-push_take_blank c w blank x = amp-push c (Take w false) x ∙ ap (λ (f : Am
 
 pub weight-push_take_blank : (c : Circuit) (w : Wire) → IsBlank c w → weight (c ++ Take w false ∷ []) ≡ weight c
 weight-push_take_blank c w blank = weight-same (c ++ Take w false ∷ []) c (amp-push_take_blank c w blank)
+
+-- ---- both outcomes of a measurement that gives its wire up
+names_either : (c : Circuit) (w : Wire) → names (c ++ Take w true ∷ []) ≡ names (c ++ Take w false ∷ [])
+names_either [] w = refl
+names_either (l ∷ ls) w = ap (λ ns. also ns (operands l)) (names_either ls w)
+
+-- together they have the circuit's weight
+pub weight-push_take_either : (c : Circuit) (w : Wire) → weight (c ++ Take w false ∷ []) + weight (c ++ Take w true ∷ []) ≡ weight c
+weight-push_take_either c w =
+    let ws = names (c ++ Take w false ∷ []) in
+    let zero_there : Wires → ℕ = λ x. norm (with_letter (Take w false) (amp c) x) in
+    let one_there : Wires → ℕ = λ x. norm (with_letter (Take w true) (amp c) x) in
+    let locally : (y : Wires) → total (w ∷ []) (λ x. zero_there x + one_there x) y ≡ 1 * total (w ∷ []) (λ x. norm (amp c x)) y =
+    λ y. simp (has-put_same, put_twice, norm-zero) (omega arith) in
+    let both =
+    total-same_locally ws (w ∷ []) 1 (λ x. zero_there x + one_there x) (λ x. norm (amp c x)) no_wires (Distinct-names (c ++ Take w false ∷ []))
+    (has_operands c (Take w false)) locally in
+    let split = total-plus ws zero_there one_there no_wires in
+    let first = after c (Take w false) in
+    let second : weight (c ++ Take w true ∷ []) ≡ total ws one_there no_wires =
+    after c (Take w true) ∙ ap (λ ns. total ns one_there no_wires) (names_either c w) in
+    let all : total ws (λ x. norm (amp c x)) no_wires ≡ weight c = before c (Take w false) in
+    omega (arith, first, second, split, both, all)
 
 -- ---- circuits that are not zero
 pub weight_where_nonzero : (c : Circuit) → IsNonzero c → weight c ≢ 0

@@ -1,6 +1,8 @@
 pub mod Wires
 pub mod WireLists
+pub mod Parcels
 pub mod Circuits
+pub mod Tags
 pub mod Stores
 pub mod Weights
 pub mod WorkedCircuits
@@ -8,5 +10,8 @@ pub mod CircuitFacts
 pub mod Protocols
 pub mod Places
 pub mod Collectives
+pub mod LettersByPlace
+pub mod ListStores
 pub mod Plain
 pub mod Sound
+pub mod ReducedForms

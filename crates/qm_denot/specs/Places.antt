@@ -1,5 +1,5 @@
 -- Places in an index: place p of an index is its bit of value 2^p
-use Rattle.std.specs.Prelude.{◌≡◌, ◌≢◌, ℕ, ◌+◌, ◌*◌, ◌/◌, ◌%◌, nat_eq, Bool, true, false, List, [], ◌∷◌}
+use Rattle.std.specs.Prelude.{◌≡◌, ◌≢◌, ℕ, ◌+◌, ◌*◌, ◌/◌, ◌%◌, ◌^◌, ◌<◌, nat_eq, Bool, true, false, List, [], ◌∷◌}
 use Rattle.std.proofs.Common.{zero, suc}
 use Rattle.qm_denot.specs.declared.Wire.{Wire}
 use Rattle.qm_denot.specs.Wires.{Wires, has, put, is_empty}
@@ -43,3 +43,9 @@ abbrev pub IsFirstAt : List Wire → ℕ → Wire → Type 0
 IsFirstAt [] p w = ⊥
 IsFirstAt (v ∷ ws) zero w = v ≡ w
 IsFirstAt (v ∷ ws) (suc p) w = (v ≢ w) × IsFirstAt ws p w
+
+-- place p is one of the places of a list of so many entries, which has one for each choice of its places
+pub record HasPlace (size p : ℕ) : Type 0 where
+  pub places : ℕ
+  pub size_is : size ≡ 2 ^ places
+  pub below : p < places

@@ -1,5 +1,5 @@
 -- Lists of wires: what they have, what they lack, and which sets they say
-use Rattle.std.specs.Prelude.{◌≢◌, Bool, true, false, not, ◌&&◌, List, [], ◌∷◌, if◌then◌else◌}
+use Rattle.std.specs.Prelude.{◌≢◌, Bool, true, not, ◌&&◌, List, [], ◌∷◌, if◌then◌else◌}
 use Rattle.qm_denot.specs.declared.Wire.{Wire}
 use Rattle.qm_denot.specs.Wires.{Wires, put, no_wires, is_wire}
 

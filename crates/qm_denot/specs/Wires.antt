@@ -1,5 +1,5 @@
 -- Wires, and finite sets of wires
-use Rattle.std.specs.Prelude.{Bool, true, false, not, nat_eq}
+use Rattle.std.specs.Prelude.{ℕ, Bool, true, false, not, nat_eq}
 use Rattle.std.specs.Ordering.{nat_cmp, bool_cmp, then_cmp, on, eq_by_cmp}
 use Rattle.std.specs.declared.cmp.Ordering.{Ordering}
 use Rattle.std.specs.FinSet as set
@@ -33,6 +33,10 @@ put x w false = set.remove x w
 -- x with w toggled
 abbrev pub toggled : Wires → Wire → Wires
 toggled x w = put x w (not (has x w))
+
+-- how many wires are one
+unfoldable pub how_many : Wires → ℕ
+how_many x = set.len x
 
 -- whether no wire is one
 unfoldable pub is_empty : Wires → Bool

@@ -2,6 +2,7 @@
 #![tactic(auto)]
 
 mod amps;
+pub mod laws;
 mod plain;
 #[cfg(test)]
 mod tests;
@@ -10,6 +11,8 @@ mod worked;
 
 pub use amps::{Amps, Overflow};
 pub use plain::PlainAmps;
+pub use plain::branches::{any_unequal, any_with};
+pub use plain::wires::{index_at, place_of};
 
 /// A qubit's name: the rank that made it, its number among the wires of that rank, and which half of an EPR pair it is.
 ///
@@ -19,6 +22,13 @@ pub struct Wire {
     pub rank: u16,
     pub made: u32,
     pub near: bool,
+}
+
+/// A parcel of a lane: the wire that it carries, if it does, and its two bits, once it has them.
+#[derive(Clone, Copy, PartialEq, Eq, Debug)]
+pub struct Parcel {
+    pub wire: Option<Wire>,
+    pub bits: Option<(bool, bool)>,
 }
 
 /// A letter of a circuit: one of the nine steps of which all programs are made.

@@ -43,7 +43,7 @@ pub struct PlainAmps {
 impl PlainAmps {
     ghost use Rattle.std.specs.Prelude.{◌≡◌, ◌≢◌, ◌+◌, ◌<◌, ◌≤◌, ◌↔◌, [], length, Contains, IfOk, IsErr, OnOk, OnErr};
     ghost use Rattle.qm_denot.specs.Stores.{StandsFor, Overflows, MayApply};
-    ghost use Rattle.qm_denot.specs.Plain.{Does, plain_store};
+    ghost use Rattle.qm_denot.specs.ListStores.{Does, listed_store};
 
     /// A store with room for so many live wires, that stands for the empty circuit.
     ///
@@ -173,12 +173,12 @@ impl PlainAmps {
 }
 
 impl Amps for PlainAmps {
-    ghost use Rattle.qm_denot.specs.Plain.{plain_store};
-    ghost use Rattle.qm_denot.specs.Sound.{plain_sound};
+    ghost use Rattle.qm_denot.specs.ListStores.{listed_store};
+    ghost use Rattle.qm_denot.specs.Sound.{listed_sound};
 
     ghost able = { Unit {0} };
 
-    ghost store = { λ s. plain_store s.capacity s.live.items s.exponent s.numerators.items };
+    ghost store = { λ s. listed_store s.capacity s.live.items s.exponent s.numerators.items };
 
     fn live(&self) -> &[Wire] {
         self.live.as_slice()
@@ -253,5 +253,5 @@ impl Amps for PlainAmps {
         self.numerators[index_at(&self.live, ones)]
     }
 
-    ghost sound = { λ s. plain_sound s.capacity s.live.items s.exponent s.numerators.items s.few s.kept };
+    ghost sound = { λ s. listed_sound s.capacity s.live.items s.exponent s.numerators.items s.few s.kept };
 }

@@ -1,16 +1,18 @@
 -- The order of the code is that of the fields, and a total one
-use Rattle.std.proofs.Common.{◌≡◌, ◌∙◌, ℕ, ◌<◌, [], ◌∷◌, get_or, ap, refl, sym}
+use Rattle.std.proofs.Common.{true, ◌≡◌, ◌∙◌, ℕ, nat_eq, ◌<◌, ◌&&◌, [], ◌∷◌, get_or, ap, refl, sym, arith}
 use Rattle.std.specs.declared.cmp.Ordering.{Ordering}
 use Rattle.std.specs.declared.cmp.Ordering.TheVariants.{Less, Equal, Greater}
-use Rattle.std.specs.Ordering.{nat_cmp, ordering_then, MatchOrdering}
+use Rattle.std.specs.Ordering.{nat_cmp, ordering_then, ordering_reverse, is_eq, MatchOrdering}
 use Rattle.std.specs.Cmp.{IsTotalOrder, nat_cmp_total}
 use Rattle.std.proofs.lemmas.Cmp.{ranked, then_total, on_total}
+use Rattle.std.proofs.lemmas.Cmp.{tied_itself}
+use Rattle.std.proofs.lemmas.Bool.Decides.{nat_tests}
 use Rattle.qm_instr.specs.declared.Lane.{Lane}
 use Rattle.qm_instr.specs.declared.Kind.{Kind}
 use Rattle.qm_instr.specs.declared.Kind.TheVariants as kind
 use Rattle.qm_instr.specs.contracts.KindOrd.TheImpl as kind_ord
 use Rattle.qm_instr.specs.contracts.LaneOrd.TheImpl as lane_ord
-use Rattle.qm_instr.specs.Lanes.{kind_place, lane_order}
+use Rattle.qm_instr.specs.Lanes.{kind_place, is_lane, lane_order}
 
 -- what holds of each kind
 by_kind : (P : Kind → Type 0) → P kind.Bit → P kind.Copy → P kind.Move → P kind.Undo → P kind.Reach → P kind.Back → (k : Kind) → P k
@@ -81,3 +83,50 @@ lane_order-equal a b e =
     ∙ ap (λ t. build b.from t a.kind a.tag) second.0
     ∙ ap (λ k. build b.from b.to k a.tag) kinds
     ∙ ap (build b.from b.to b.kind) last
+
+-- two lanes are the same where they are equal in their order
+equal_then : (c o : Ordering) → is_eq (ordering_then c o) ≡ is_eq c && is_eq o
+equal_then Less o = refl
+equal_then Equal o = refl
+equal_then Greater o = refl
+
+equal_numbers_test : (x y : ℕ) → is_eq (nat_cmp x y) ≡ nat_eq x y
+equal_numbers_test x y = by_order (nat_cmp x y) (ranked x y (nat_cmp x y) refl)
+  where
+    by_order : (c : Ordering) → MatchOrdering c (x < y) (x ≡ y) (y < x) → is_eq c ≡ nat_eq x y
+    by_order Less h = grind (arith, nat_tests)
+    by_order Equal h = grind (arith, nat_tests)
+    by_order Greater h = grind (arith, nat_tests)
+
+pub is_lane-order : (a b : Lane) → is_lane a b ≡ is_eq (lane_order a b)
+unfolding is_lane
+is_lane-order a b =
+    let first = equal_then (nat_cmp a.from b.from) (ordering_then (nat_cmp a.to b.to) (ordering_then (nat_cmp (kind_place a.kind) (kind_place b.kind)) (nat_cmp a.tag b.tag))) in
+    let second = equal_then (nat_cmp a.to b.to) (ordering_then (nat_cmp (kind_place a.kind) (kind_place b.kind)) (nat_cmp a.tag b.tag)) in
+    let third = equal_then (nat_cmp (kind_place a.kind) (kind_place b.kind)) (nat_cmp a.tag b.tag) in
+    sym (first ∙ ap (λ o. is_eq (nat_cmp a.from b.from) && o) (second ∙ ap (λ o. is_eq (nat_cmp a.to b.to) && o) third)
+    ∙ ap (λ o. o && (is_eq (nat_cmp a.to b.to) && (is_eq (nat_cmp (kind_place a.kind) (kind_place b.kind)) && is_eq (nat_cmp a.tag b.tag)))) (equal_numbers_test a.from b.from)
+    ∙ ap (λ o. nat_eq a.from b.from && (o && (is_eq (nat_cmp (kind_place a.kind) (kind_place b.kind)) && is_eq (nat_cmp a.tag b.tag)))) (equal_numbers_test a.to b.to)
+    ∙ ap (λ o. nat_eq a.from b.from && (nat_eq a.to b.to && (o && is_eq (nat_cmp a.tag b.tag)))) (equal_numbers_test (kind_place a.kind) (kind_place b.kind))
+    ∙ ap (λ o. nat_eq a.from b.from && (nat_eq a.to b.to && (nat_eq (kind_place a.kind) (kind_place b.kind) && o))) (equal_numbers_test a.tag b.tag))
+
+pub same_lane : (a b : Lane) → is_lane a b ≡ true → a ≡ b
+same_lane a b e = lane_order-equal a b (by_order (lane_order a b) (sym (is_lane-order a b) ∙ e))
+  where
+    by_order : (o : Ordering) → is_eq o ≡ true → o ≡ Equal
+    by_order Less e = cc
+    by_order Equal e = refl
+    by_order Greater e = cc
+
+pub lane_itself : (a : Lane) → is_lane a a ≡ true
+lane_itself a = is_lane-order a a ∙ ap is_eq (tied_itself lane_order-total a)
+
+-- it doesn't matter which of two lanes is named first
+pub lane_turned : (a b : Lane) → is_lane a b ≡ is_lane b a
+lane_turned a b =
+    is_lane-order a b ∙ ap is_eq (lane_order-total.antisymm a b) ∙ reversed (lane_order b a) ∙ sym (is_lane-order b a)
+  where
+    reversed : (o : Ordering) → is_eq (ordering_reverse o) ≡ is_eq o
+    reversed Less = refl
+    reversed Equal = refl
+    reversed Greater = refl

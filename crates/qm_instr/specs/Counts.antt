@@ -14,7 +14,15 @@ counts events protocol own = record { events = events; protocol = protocol; own 
 
 -- the table: events, outcomes of the protocol tape, outcomes of the own tape
 abbrev pub counts_of : Instr → Counts
+counts_of (instr.Alloc q) = counts 1 0 0
+counts_of (instr.Free q) = counts 1 0 0
+counts_of (instr.Do g) = counts 1 0 0
 counts_of (instr.Measure q b) = counts 1 0 1
+counts_of (instr.Set b v) = counts 1 0 0
+counts_of (instr.Xor b c) = counts 1 0 0
+counts_of (instr.When b g) = counts 1 0 0
+counts_of (instr.SendBit b to tag) = counts 1 0 0
+counts_of (instr.RecvBit b from tag) = counts 1 0 0
 counts_of (instr.CopyTo q to tag) = counts 3 1 0
 counts_of (instr.CopyFrom q from tag) = counts 2 0 0
 counts_of (instr.UndoFrom q from tag) = counts 2 0 0
@@ -23,7 +31,6 @@ counts_of (instr.MoveTo q to tag) = counts 5 2 0
 counts_of (instr.MoveFrom q from tag) = counts 3 0 0
 counts_of (instr.ReachTo q to tag) = counts 5 1 0
 counts_of (instr.ReachFrom t from tag) = counts 5 1 0
-counts_of _ = counts 1 0 0
 
 -- how many events it has
 abbrev pub events_of : Instr → ℕ

@@ -1,7 +1,7 @@
 -- The lanes of an instruction's messages
-use Rattle.std.specs.Prelude.{ℕ, Bool, Option, Some, None}
+use Rattle.std.specs.Prelude.{ℕ, nat_eq, Bool, false, ◌&&◌, Option, Some, None}
 use Rattle.std.specs.declared.cmp.Ordering.{Ordering}
-use Rattle.std.specs.Ordering.{nat_cmp, ordering_then, is_eq}
+use Rattle.std.specs.Ordering.{nat_cmp, ordering_then}
 use Rattle.qm_instr.specs.declared.Instr.{Instr}
 use Rattle.qm_instr.specs.declared.Instr.TheVariants as instr
 use Rattle.qm_instr.specs.declared.Kind.{Kind}
@@ -29,24 +29,55 @@ lane_order a b =
     let last = ordering_then (kind_order a.kind b.kind) (nat_cmp a.tag b.tag) in
     ordering_then (nat_cmp a.from b.from) (ordering_then (nat_cmp a.to b.to) last)
 
--- whether two lanes are equal in each field
-abbrev pub is_same_lane : Lane → Lane → Bool
-is_same_lane a b = is_eq (lane_order a b)
+-- whether two kinds are the same
+abbrev pub is_kind : Kind → Kind → Bool
+is_kind a b = nat_eq (kind_place a) (kind_place b)
+
+-- whether two lanes are the same: equal in each field
+unfoldable pub is_lane : Lane → Lane → Bool
+is_lane a b = nat_eq a.from b.from && (nat_eq a.to b.to && (is_kind a.kind b.kind && nat_eq a.tag b.tag))
+
+-- whether lane a is the one, where there is one
+abbrev pub is_on : Option Lane → Lane → Bool
+is_on None a = false
+is_on (Some b) a = is_lane b a
 
 -- the lane on which an instruction of a rank is a send
 abbrev pub lane_sent : ℕ → Instr → Option Lane
+lane_sent rank (instr.Alloc q) = None
+lane_sent rank (instr.Free q) = None
+lane_sent rank (instr.Do g) = None
+lane_sent rank (instr.Measure q b) = None
+lane_sent rank (instr.Set b v) = None
+lane_sent rank (instr.Xor b c) = None
+lane_sent rank (instr.When b g) = None
 lane_sent rank (instr.SendBit b to tag) = Some (lane rank to kind.Bit tag)
+lane_sent rank (instr.RecvBit b from tag) = None
 lane_sent rank (instr.CopyTo q to tag) = Some (lane rank to kind.Copy tag)
+lane_sent rank (instr.CopyFrom q from tag) = None
 lane_sent rank (instr.UndoTo q to tag) = Some (lane rank to kind.Undo tag)
+lane_sent rank (instr.UndoFrom q from tag) = None
 lane_sent rank (instr.MoveTo q to tag) = Some (lane rank to kind.Move tag)
+lane_sent rank (instr.MoveFrom q from tag) = None
 lane_sent rank (instr.ReachTo q to tag) = Some (lane rank to kind.Reach tag)
-lane_sent rank _ = None
+lane_sent rank (instr.ReachFrom t from tag) = None
 
 -- the lane on which an instruction of a rank is a receive
 abbrev pub lane_received : ℕ → Instr → Option Lane
+lane_received rank (instr.Alloc q) = None
+lane_received rank (instr.Free q) = None
+lane_received rank (instr.Do g) = None
+lane_received rank (instr.Measure q b) = None
+lane_received rank (instr.Set b v) = None
+lane_received rank (instr.Xor b c) = None
+lane_received rank (instr.When b g) = None
+lane_received rank (instr.SendBit b to tag) = None
 lane_received rank (instr.RecvBit b from tag) = Some (lane from rank kind.Bit tag)
+lane_received rank (instr.CopyTo q to tag) = None
 lane_received rank (instr.CopyFrom q from tag) = Some (lane from rank kind.Copy tag)
+lane_received rank (instr.UndoTo q to tag) = None
 lane_received rank (instr.UndoFrom q from tag) = Some (lane from rank kind.Undo tag)
+lane_received rank (instr.MoveTo q to tag) = None
 lane_received rank (instr.MoveFrom q from tag) = Some (lane from rank kind.Move tag)
+lane_received rank (instr.ReachTo q to tag) = None
 lane_received rank (instr.ReachFrom t from tag) = Some (lane from rank kind.Reach tag)
-lane_received rank _ = None

@@ -33,13 +33,23 @@ slots_of (instr.ReachFrom t from tag) = t ∷ []
 
 -- the classical bits of an instruction
 abbrev pub bits_of : Instr → List ℕ
+bits_of (instr.Alloc q) = []
+bits_of (instr.Free q) = []
+bits_of (instr.Do g) = []
 bits_of (instr.Measure q b) = b ∷ []
 bits_of (instr.Set b v) = b ∷ []
 bits_of (instr.Xor b c) = b ∷ c ∷ []
 bits_of (instr.When b g) = b ∷ []
 bits_of (instr.SendBit b to tag) = b ∷ []
 bits_of (instr.RecvBit b from tag) = b ∷ []
-bits_of _ = []
+bits_of (instr.CopyTo q to tag) = []
+bits_of (instr.CopyFrom q from tag) = []
+bits_of (instr.UndoTo q to tag) = []
+bits_of (instr.UndoFrom q from tag) = []
+bits_of (instr.MoveTo q to tag) = []
+bits_of (instr.MoveFrom q from tag) = []
+bits_of (instr.ReachTo q to tag) = []
+bits_of (instr.ReachFrom t from tag) = []
 
 -- each slot is below the rank's qubits, and each bit below 32
 pub record HasOperands (qubits : ℕ) (i : Instr) : Type 0 where

@@ -24,6 +24,56 @@ impl Write for Broken {
     }
 }
 
+/// An end that fails at its first call, and then reads a dot and takes all.
+#[derive(Drop)]
+struct OnceBroken {
+    has_failed: bool,
+}
+
+impl OnceBroken {
+    fn fail_once(&mut self) -> io::Result<()> {
+        if self.has_failed {
+            return Ok(());
+        }
+        self.has_failed = true;
+        Err(Error::from(ErrorKind::BrokenPipe))
+    }
+}
+
+impl Read for OnceBroken {
+    fn read(&mut self, buf: &mut [u8]) -> io::Result<usize> {
+        self.fail_once()?;
+        if buf.is_empty() {
+            return Ok(0);
+        }
+        buf[0] = b'.';
+        Ok(1)
+    }
+}
+
+impl Write for OnceBroken {
+    fn write(&mut self, buf: &[u8]) -> io::Result<usize> {
+        self.fail_once()?;
+        Ok(buf.len())
+    }
+
+    fn flush(&mut self) -> io::Result<()> {
+        self.fail_once()
+    }
+}
+
+#[test]
+fn a_failed_call_is_not_tried_again(rt: HostRuntime) -> Result<(), Fail> {
+    let mut source = StdSource::start(OnceBroken { has_failed: false });
+    assert!(rt; matches!(read_all(rt.alloc(), &mut source), Err(TextError::ReadFault)));
+    let mut sink = StdSink::start(OnceBroken { has_failed: false });
+    assert!(rt; put_bytes(&mut sink, b"0123").is_err());
+    let mut flushed = StdSink::start(OnceBroken { has_failed: false });
+    assert!(rt; flushed.flush().is_err());
+    assert!(rt; flushed.flush().is_ok());
+    Ok(())
+}
+
 #[test]
 fn a_text_goes_to_memory_until_a_call_fails(rt: HostRuntime) -> Result<(), Fail> {
     // the room, the call that fails, what is taken, whether the text is put and flushed

@@ -8,8 +8,11 @@ use Rattle.qm_denot.specs.Circuits.{Circuit}
 use Rattle.qm_denot.specs.Stores.{StandsFor}
 use Rattle.qm_instr.specs.Programs.{Programs}
 use Rattle.qm_proto.specs.Model.State.{Part, Tables, with_part}
-use Rattle.qm_proto.specs.Model.Acts.{Act, Fresh, Twin, Apply, SlotOut, NearOut, FarOut, all_done, all_letters}
-use Rattle.qm_proto.specs.Model.Rows.{Row, current}
+use Rattle.qm_proto.specs.declared.Act.{Act}
+use Rattle.qm_proto.specs.declared.Act.TheVariants.{Fresh, Twin, Apply, SlotOut, NearOut, FarOut}
+use Rattle.qm_proto.specs.Model.Acts.{all_done, all_letters, list_of}
+use Rattle.qm_proto.specs.declared.Row.{Row}
+use Rattle.qm_proto.specs.Model.Rows.{current}
 use Rattle.qm_proto.specs.Model.Runs.{events_at, moved_on, row_next, row_done, row_letters}
 use Rattle.qm_proto.specs.Model.Places.{Place, InSlot, NearOf, FarOf, IsAt}
 use Rattle.qm_proto.specs.Model.May.{Limits, limits_after, limits_after_all}
@@ -44,7 +47,7 @@ parcels_after_all : (acts : List Act) (s : Limits) → (limits_after_all acts s)
 parcels_after_all [] s = refl
 parcels_after_all (a ∷ acts) s = parcels_after_all acts (limits_after a s) ∙ parcels_after a s
 
-did_ranks : (f g : Facts) (r : ℕ) (acts : List Act) → Did f r acts g → g.ranks ≡ f.ranks
+pub did_ranks : (f g : Facts) (r : ℕ) (acts : List Act) → Did f r acts g → g.ranks ≡ f.ranks
 did_ranks f g r acts d = ap (λ (s : Limits). s.ranks) d.limits ∙ ranks_after_all acts (limits_of f)
 
 did_parcels : (f g : Facts) (r : ℕ) (acts : List Act) → Did f r acts g → g.parcels ≡ f.parcels
@@ -103,7 +106,7 @@ moved_sound f r n sound =
 
 -- the acts of a rank's next event and then the move are that event
 pub advanced : (p : Programs) (f g h : Facts) (r n : ℕ) (w : Row) → row_next p f.tables r ≡ Some w → events_at (current p f.tables r) ≡ n
-    → Did f r w.acts g → h ≡ moved g r n → Advanced p f r h
+    → Did f r (list_of w.acts) g → h ≡ moved g r n → Advanced p f r h
 advanced p f g h r n w is count d e =
     let P : Facts → Type 0 = Advanced p f r in
     subst P (sym e) (
@@ -115,8 +118,8 @@ advanced p f g h r n w is count d e =
       stands = λ c s. rw is (d.stands c s);
       sound = moved_sound g r n d.sound;
       capacity = d.capacity;
-      parcels = did_parcels f g r w.acts d;
-      ranks = did_ranks f g r w.acts d;
+      parcels = did_parcels f g r (list_of w.acts) d;
+      ranks = did_ranks f g r (list_of w.acts) d;
       letters = d.letters ∙ ap (λ o. f.letters + length (row_letters r o f.tables)) (sym is);
       paulis = d.paulis ∙ ap (λ o. f.paulis + count_by is_pauli (row_letters r o f.tables)) (sym is);
     })

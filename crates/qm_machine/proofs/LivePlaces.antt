@@ -1,27 +1,28 @@
 -- The live wires stay the placed ones where wires come to places, leave them, and move
 use Rattle.std.proofs.Common.{◌≡◌, ◌≢◌, ◌↔◌, ◌⊎◌, ℕ, zero, suc, ◌+◌, true, false, Some, None, List, [], ◌∷◌, ◌++◌, length, Contains, inl, inr, refl, sym, ap, subst, ◌∙◌, arith}
 use Rattle.std.proofs.lemmas.List.Elements.{Contains-push, Contains-push_cases, Contains-append_left}
+use Rattle.std.proofs.lemmas.Option.{same_Some}
 use Rattle.qm_denot.specs.declared.Wire.{Wire}
-use Rattle.qm_denot.specs.Wires.{is_wire}
+use Rattle.qm_denot.specs.Wires.{is_wire, has, put}
 use Rattle.qm_denot.specs.WireLists.{Distinct, Lacks, without_wire}
 use Rattle.qm_denot.proofs.Sets.{same_from_is, is_wire_itself}
 use Rattle.qm_denot.proofs.NameLists.{without_wire-lacked}
 use Rattle.qm_instr.specs.declared.Lane.{Lane}
-use Rattle.qm_proto.specs.declared.Parcel.{Parcel}
+use Rattle.qm_denot.specs.declared.Parcel.{Parcel}
 use Rattle.qm_proto.specs.Model.State.{Part, Tables}
 use Rattle.qm_proto.specs.Model.Places.{Place, InSlot, NearOf, FarOf, IsAt, IsPlaced, IsOnlyAt}
 use Rattle.qm_proto.proofs.Changes.{by_slot, with_at-here, with_slot-here}
-use Rattle.qm_proto.proofs.TidyPlaces.{Contains-where_without_wire, Contains-without_wire, without_wire-lacks}
-use Rattle.qm_proto.proofs.TidyChanges.{slot_changed, near_more, far_more, near_less, far_less, before_filled, before_near_more, before_far_more, before_near_less, before_far_less, stays_more, stays_less}
+use Rattle.qm_proto.proofs.TidyPlaces.{Contains-where_without_wire, Contains-without_wire, without_wire-lacks, has_new, lacks_gone}
+use Rattle.qm_proto.proofs.TidyChanges.{slot_changed, near_more, far_more, near_less, far_less, before_filled, before_emptied, before_near_more, before_far_more, before_near_less, before_far_less, stays_more, stays_less}
 
 -- the live wires are the placed ones
 abbrev pub AreLive : List Wire → Tables → Type 0
 AreLive ws t = (v : Wire) → Contains ws v ↔ IsPlaced t v
 
--- ---- parts and lanes have no say in it
-module _ (t : Tables) (parts : ℕ → Part) (lanes : Lane → List Parcel) (v : Wire) where
+-- ---- parts, counts and lanes have no say in it
+module _ (t : Tables) (parts : ℕ → Part) (held : ℕ → ℕ) (lanes : Lane → List Parcel) (v : Wire) where
   abbrev beside : Tables
-  beside = record t { parts = parts; lanes = lanes }
+  beside = record t { parts = parts; held = held; lanes = lanes }
 
   there : (o : Place) → IsAt t v o → IsAt beside v o
   there (InSlot r q) h = h
@@ -33,10 +34,10 @@ module _ (t : Tables) (parts : ℕ → Part) (lanes : Lane → List Parcel) (v :
   back (NearOf r) h = h
   back (FarOf r) h = h
 
-pub live_beside : (t : Tables) (parts : ℕ → Part) (lanes : Lane → List Parcel) (ws : List Wire)
-    → AreLive ws t → AreLive ws (record t { parts = parts; lanes = lanes })
-live_beside t parts lanes ws live v =
-    ((λ h. let p = (live v).0 h in (p.0, there t parts lanes v p.0 p.1)), (λ (o, h). (live v).1 (o, back t parts lanes v o h)))
+pub live_beside : (t : Tables) (parts : ℕ → Part) (held : ℕ → ℕ) (lanes : Lane → List Parcel) (ws : List Wire)
+    → AreLive ws t → AreLive ws (record t { parts = parts; held = held; lanes = lanes })
+live_beside t parts held lanes ws live v =
+    ((λ h. let p = (live v).0 h in (p.0, there t parts held lanes v p.0 p.1)), (λ (o, h). (live v).1 (o, back t parts held lanes v o h)))
 
 -- ---- a wire comes to a place, and every other stays where it is
 pub record Comes (t u : Tables) (w : Wire) (p : Place) : Type 0 where
@@ -76,7 +77,7 @@ pub near_comes : (t : Tables) (r : ℕ) (w : Wire) → Comes t (near_more t r w)
 near_comes t r w = record {
   before = λ v. before_near_more t r w v;
   after = after;
-  here = subst (λ ws. Contains ws w) (sym (with_at-here t.near r (t.near r ++ w ∷ []))) (Contains-push (t.near r) w);
+  here = subst (λ x. has x w ≡ true) (sym (with_at-here t.near r (put (t.near r) w true))) (has_new (t.near r) w);
 }
   where
     after : (v : Wire) (o : Place) → IsAt t v o → IsAt (near_more t r w) v o
@@ -88,7 +89,7 @@ pub far_comes : (t : Tables) (r : ℕ) (w : Wire) → Comes t (far_more t r w) w
 far_comes t r w = record {
   before = λ v. before_far_more t r w v;
   after = after;
-  here = subst (λ ws. Contains ws w) (sym (with_at-here t.far r (t.far r ++ w ∷ []))) (Contains-push (t.far r) w);
+  here = subst (λ x. has x w ≡ true) (sym (with_at-here t.far r (put (t.far r) w true))) (has_new (t.far r) w);
 }
   where
     after : (v : Wire) (o : Place) → IsAt t v o → IsAt (far_more t r w) v o
@@ -124,7 +125,8 @@ near_leaves t r w only = record { before = λ v. before_near_less t r w v; after
     gone (o, h) =
         let e : o ≡ NearOf r = only.only o (before_near_less t r w w o h) in
         let c = subst (IsAt (near_less t r w) w) e h in
-        without_wire-lacks (t.near r) w (subst (λ ws. Contains ws w) (with_at-here t.near r (without_wire (t.near r) w)) c)
+        let still : has (put (t.near r) w false) w ≡ true = subst (λ x. has x w ≡ true) (with_at-here t.near r (put (t.near r) w false)) c in
+        let lacks = lacks_gone (t.near r) w in cc
 
 pub far_leaves : (t : Tables) (r : ℕ) (w : Wire) → IsOnlyAt t w (FarOf r) → Leaves t (far_less t r w) w
 far_leaves t r w only = record { before = λ v. before_far_less t r w v; after = after; gone = gone }
@@ -138,7 +140,25 @@ far_leaves t r w only = record { before = λ v. before_far_less t r w v; after =
     gone (o, h) =
         let e : o ≡ FarOf r = only.only o (before_far_less t r w w o h) in
         let c = subst (IsAt (far_less t r w) w) e h in
-        without_wire-lacks (t.far r) w (subst (λ ws. Contains ws w) (with_at-here t.far r (without_wire (t.far r) w)) c)
+        let still : has (put (t.far r) w false) w ≡ true = subst (λ x. has x w ≡ true) (with_at-here t.far r (put (t.far r) w false)) c in
+        let lacks = lacks_gone (t.far r) w in cc
+
+pub slot_leaves : (t : Tables) (r q : ℕ) (w : Wire) → IsOnlyAt t w (InSlot r q) → Leaves t (slot_changed t r q None) w
+slot_leaves t r q w only = record { before = λ v. before_emptied t r w v q; after = after; gone = gone }
+  where
+    after : (v : Wire) (o : Place) → v ≢ w → IsAt t v o → IsAt (slot_changed t r q None) v o
+    after v (InSlot k p) ne h =
+        by_slot (λ x. x ≡ Some v) t.slots r q None k p
+        (λ s. absurd (ne (let e : Some v ≡ Some w = sym h ∙ ap (λ j. t.slots j p) s.rank ∙ ap (t.slots r) s.slot ∙ only.here in same_Some v w e)))
+        (λ _. h)
+    after v (NearOf k) ne h = h
+    after v (FarOf k) ne h = h
+
+    gone : ¬ (IsPlaced (slot_changed t r q None) w)
+    gone (o, h) =
+        let e : o ≡ InSlot r q = only.only o (before_emptied t r w w q o h) in
+        let c = subst (IsAt (slot_changed t r q None) w) e h in
+        let n : None ≡ Some w = sym (with_slot-here t.slots r q None) ∙ c in cc
 
 -- ---- a wire moves
 -- a list without a wire and with it at its end has the same wires

@@ -1,6 +1,6 @@
 -- A rank's parts as lists and functions
-use Rattle.std.proofs.Common.{◌≡◌, ◌∙◌, ℕ, Bool, true, false, not, cond, List, [], ◌∷◌, Option, None, Some, zero, suc, filter, replicate, length, ◌≤◌, ◌<◌, ◌^◌, slice_index_or, refl, sym, ap, subst, arith}
-use Rattle.std.specs.Option.{option_eq, option_to_list}
+use Rattle.std.proofs.Common.{◌≡◌, ◌∙◌, ◌⊎◌, inl, inr, ℕ, ◌+◌, Bool, true, false, not, cond, List, [], ◌∷◌, ◌++◌, Contains, Option, None, Some, zero, suc, filter, replicate, length, ◌≤◌, ◌<◌, ◌^◌, slice_index_or, refl, sym, ap, subst, arith}
+use Rattle.std.specs.Option.{option_to_list}
 use Rattle.std.proofs.Math.Path.{fun_ext}
 use Rattle.std.specs.Cmp.{booleans_Decides}
 use Rattle.std.proofs.Math.Bool.{beq}
@@ -10,12 +10,16 @@ use Rattle.std.proofs.lemmas.Bool.Decides.{same_from_decides}
 use Rattle.std.proofs.lemmas.Nat.{pow_pos}
 use Rattle.std.proofs.Math.Nat.{pow-succ'}
 use Rattle.qm_denot.specs.declared.Wire.{Wire}
-use Rattle.qm_denot.specs.Wires.{is_wire}
-use Rattle.qm_denot.specs.WireLists.{without_wire}
+use Rattle.qm_denot.specs.Wires.{Wires, is_wire, has, put, no_wires}
+use Rattle.qm_denot.specs.WireLists.{Lacks, without_wire, with_wires, wires_of}
 use Rattle.qm_denot.specs.contracts.WirePartialEq.TheImpl as wire_eq
-use Rattle.qm_denot.proofs.Sets.{is_wire_itself, same_from_is}
+use Rattle.qm_denot.proofs.LiveWires.{with_wires-push}
+use Rattle.qm_denot.proofs.NameLists.{other_from_is}
+use Rattle.qm_denot.proofs.Sets.{is_wire_itself, same_from_is, put_twice, put_swap, put_has, has-no_wires}
 use Rattle.qm_instr.specs.Programs.{idle_rank}
 use Rattle.qm_proto.specs.Model.Schedules.{part_at_start}
+use Rattle.qm_proto.proofs.Changes.{by_test}
+use Rattle.qm_proto.proofs.TidyPlaces.{has_cases, has_more, has_new}
 use Rattle.qm_machine.specs.Views.{RankView, slot_in, number_of_bits}
 
 -- the test of two wires in the code
@@ -45,16 +49,6 @@ pub code_wire-is_wire : (v w : Wire) → code_wire v w ≡ is_wire v w
 code_wire-is_wire v w =
     same_from_decides (code_wire v w) (is_wire v w) (same_by_code v w, code_same v w) (same_from_is v w, λ e. subst (λ u. is_wire v u ≡ true) e (is_wire_itself v))
 
--- a near half that is dropped
-pub near_gone : (o : Option Wire) (w : Wire) → option_eq code_wire o (Some w) ≡ true → without_wire (option_to_list o) w ≡ []
-near_gone None w e = cc
-near_gone (Some v) w e = let h : is_wire v w ≡ true = sym (code_wire-is_wire v w) ∙ e in rw h refl
-
--- and one that isn't
-pub near_kept : (o : Option Wire) (w : Wire) → option_eq code_wire o (Some w) ≡ false → without_wire (option_to_list o) w ≡ option_to_list o
-near_kept None w e = refl
-near_kept (Some v) w e = let h : is_wire v w ≡ false = sym (code_wire-is_wire v w) ∙ e in rw h refl
-
 cond_not : {A : Type 0} (b : Bool) (x y : A) → cond (not b) x y ≡ cond b y x
 cond_not true x y = refl
 cond_not false x y = refl
@@ -67,6 +61,81 @@ without_wire-filter (v ∷ ws) w =
     cond_not (code_wire v w) (v ∷ rest) rest
     ∙ ap (λ b. cond b rest (v ∷ rest)) (code_wire-is_wire v w)
     ∙ ap (λ vs. cond (is_wire v w) vs (v ∷ vs)) (without_wire-filter ws w)
+
+-- what is not so is false
+pub false_unless : (b : Bool) → ¬ (b ≡ true) → b ≡ false
+false_unless true never = absurd (never refl)
+false_unless false never = refl
+
+-- ---- halves in lists as sets
+-- one wire more
+pub wires_of-push : (ws : List Wire) (w : Wire) → wires_of (ws ++ w ∷ []) ≡ put (wires_of ws) w true
+wires_of-push ws w = with_wires-push ws w no_wires
+
+-- one wire less
+with_wires-without : (ws : List Wire) (w : Wire) (x : Wires) → with_wires (without_wire ws w) (put x w false) ≡ put (with_wires ws x) w false
+with_wires-without [] w x = refl
+with_wires-without (v ∷ ws) w x =
+    let rest = with_wires-without ws w (put x v true) in
+    by_test (λ us. with_wires us (put x w false) ≡ put (with_wires ws (put x v true)) w false) (is_wire v w) (without_wire ws w) (v ∷ without_wire ws w)
+    (λ e.
+    let here : put (put x v true) w false ≡ put x w false = ap (λ u. put (put x u true) w false) (same_from_is v w e) ∙ put_twice x w true false in
+    ap (with_wires (without_wire ws w)) (sym here) ∙ rest)
+    (λ e. ap (with_wires (without_wire ws w)) (sym (put_swap x v w true false (other_from_is v w e))) ∙ rest)
+
+pub wires_of-without : (ws : List Wire) (w : Wire) → wires_of (without_wire ws w) ≡ put (wires_of ws) w false
+wires_of-without ws w =
+    ap (with_wires (without_wire ws w)) (sym (put_has no_wires w false (has-no_wires w))) ∙ with_wires-without ws w no_wires
+
+-- the set has no other wires than the list
+contained_or_before : (ws : List Wire) (x : Wires) (w : Wire) → has (with_wires ws x) w ≡ true → Contains ws w ⊎ (has x w ≡ true)
+contained_or_before [] x w h = inr h
+contained_or_before (v ∷ ws) x w h = elim (contained_or_before ws (put x v true) w h) [
+  | inl (k, below, is) ↦ inl (suc k, omega arith, is)
+  | inr put ↦ elim (has_cases x v w put) [ inl old ↦ inr old | inr same ↦ inl (zero, omega arith, sym same) ]
+]
+
+pub contained : (ws : List Wire) (w : Wire) → has (wires_of ws) w ≡ true → Contains ws w
+contained ws w h = elim (contained_or_before ws no_wires w h) [ inl c ↦ c | inr none ↦ absurd (let e = has-no_wires w in let n : ⊥ = cc in n) ]
+
+-- and all of them
+still_has : (ws : List Wire) (x : Wires) (w : Wire) → has x w ≡ true → has (with_wires ws x) w ≡ true
+still_has [] x w h = h
+still_has (v ∷ ws) x w h = still_has ws (put x v true) w (has_more x v w h)
+
+lacked_where_absent : (ws : List Wire) (x : Wires) (w : Wire) → has (with_wires ws x) w ≡ false → Lacks ws w
+lacked_where_absent [] x w h = tt
+lacked_where_absent (v ∷ ws) x w h = (
+  λ e.
+      let here : has (with_wires ws (put x v true)) w ≡ true = subst (λ u. has (with_wires ws (put x v true)) u ≡ true) e (still_has ws (put x v true) v (has_new x v)) in
+      let n : ⊥ = cc in n,
+  lacked_where_absent ws (put x v true) w h,
+)
+
+pub lacked : (ws : List Wire) (w : Wire) → has (wires_of ws) w ≡ false → Lacks ws w
+lacked ws w h = lacked_where_absent ws no_wires w h
+
+-- a near half is there or not
+pub near_none : (o : Option Wire) → wires_of (option_to_list o) ≡ no_wires → o ≡ None
+near_none None e = refl
+near_none (Some v) e =
+    let here : has no_wires v ≡ true = subst (λ x. has x v ≡ true) e (has_new no_wires v) in
+    let n : ⊥ = (let none = has-no_wires v in cc) in absurd n
+
+-- it is the only one
+pub near_gone : (o : Option Wire) (e : Wire) → has (wires_of (option_to_list o)) e ≡ true → put (wires_of (option_to_list o)) e false ≡ no_wires
+near_gone None e h = let none = has-no_wires e in let n : ⊥ = cc in absurd n
+near_gone (Some v) e h =
+    let same : e ≡ v = only_one (has_cases no_wires v e h) in
+    ap (λ u. put (put no_wires v true) u false) same ∙ put_twice no_wires v true false ∙ put_has no_wires v false (has-no_wires v)
+  where
+    only_one : (has no_wires e ≡ true) ⊎ (e ≡ v) → e ≡ v
+    only_one (inl old) = let none = has-no_wires e in let n : ⊥ = cc in absurd n
+    only_one (inr new) = new
+
+pub near_counted : (o : Option Wire) (e : Wire) → has (wires_of (option_to_list o)) e ≡ true → length (option_to_list o) ≡ 1
+near_counted None e h = let none = has-no_wires e in let n : ⊥ = cc in absurd n
+near_counted (Some v) e h = refl
 
 -- ---- a rank at its start
 abbrev no_slot : Option Wire
@@ -82,8 +151,9 @@ abbrev start_view : List Bool → List Bool → (ℕ → Option Wire) → List W
 start_view own protocol slots far = record {
   part = part_at_start (record idle_rank { own = own; protocol = protocol });
   slots = slots;
-  near = [];
-  far = far;
+  near = no_wires;
+  far = wires_of far;
+  held = 0 + length far;
 }
 
 -- the parts of a rank at its start

@@ -1,8 +1,9 @@
 -- The line of the table at which a rank stands
-use Rattle.std.proofs.Common.{◌≡◌, ◌<◌, ◌+◌, ◌^◌, ℕ, zero, suc, Bool, true, false, nat_lt, ◌==◌, if◌then◌else◌, Option, Some, None, is_some, List, [], ◌∷◌, length, take, map, slice_get, inl, inr, refl, sym, ap, subst, ◌∙◌, arith}
-use Rattle.std.specs.Option.{option_or, option_map}
+use Rattle.std.proofs.Common.{◌≡◌, ◌<◌, ◌+◌, ◌^◌, ℕ, Bool, true, false, nat_lt, ◌==◌, if◌then◌else◌, Option, Some, None, is_some, [], ◌++◌, ◌≤◌, length, take, slice_get, refl, sym, ap, subst, ◌∙◌, arith}
+use Rattle.std.specs.Option.{option_or}
 use Rattle.std.specs.List.{AllByRecursion}
-use Rattle.std.proofs.lemmas.Option.{slice_get-map, slice_get_within, slice_get_cases}
+use Rattle.std.proofs.lemmas.Option.{slice_get_within, get_or_from_slice_get}
+use Rattle.std.proofs.lemmas.List.Elements.{All-get_or, All-from_recursion}
 use Rattle.std.proofs.lemmas.Bool.{ltb-true}
 use Rattle.std.proofs.lemmas.List.Sums.{get_or-le-sum_by}
 use Rattle.qm_instr.specs.declared.Instr.{Instr}
@@ -13,37 +14,30 @@ use Rattle.qm_check.specs.declared.Fault.{Fault}
 use Rattle.qm_check.specs.Checks.{IsReady, Step}
 use Rattle.qm_check.specs.Operands.{uses_of, partner_of}
 use Rattle.qm_check.specs.Slots.{partner_fault, slot_fault, fault_if_any, full_after}
-use Rattle.qm_proto.specs.declared.Event.{Event}
-use Rattle.qm_proto.specs.declared.Rule.{Rule}
-use Rattle.qm_proto.specs.Events.{events_in}
-use Rattle.qm_proto.specs.Model.State.{Tables}
-use Rattle.qm_proto.specs.Model.Acts.{Act}
-use Rattle.qm_proto.specs.Model.Rows.{Row, rows, current}
-use Rattle.qm_proto.specs.Model.Runs.{row_in, row_next, row_holds, row_checks, holds, enabled, has_event, events_at}
-use Rattle.qm_proto.proofs.Positions.{all_at_kept}
-use Rattle.qm_machine.specs.Facts.{Facts, Did, moved}
-use Rattle.qm_machine.specs.Tries.{IsRuleKnown, Passes, Advanced, row_at, rule_of, event_of, acts_of}
-use Rattle.qm_machine.specs.Turns.{StandsAt}
-use Rattle.qm_machine.proofs.Chains.{advanced}
+use Rattle.qm_denot.specs.declared.Letter.{Letter}
+use Rattle.qm_denot.specs.declared.Letter.TheVariants.{Phase, Flip, Had}
+use Rattle.qm_proto.specs.declared.Cause.{Cause}
+use Rattle.qm_proto.specs.declared.Check.{Check}
+use Rattle.qm_proto.specs.declared.Few.{Few}
+use Rattle.qm_proto.specs.declared.Few.TheVariants.{Empty}
+use Rattle.qm_proto.specs.Model.Acts.{list_of}
+use Rattle.qm_proto.specs.Model.State.{Tables, wire_in, bit_of, wire_of, first_bit, second_bit}
+use Rattle.qm_proto.specs.declared.Row.{Row}
+use Rattle.qm_proto.specs.Model.Rows.{rows, current, letter, letter_checks, gate_letter, few_if}
+use Rattle.qm_proto.specs.Model.Runs.{row_in, row_next, row_holds, row_checks, holds, enabled, has_event}
+use Rattle.qm_proto.proofs.Positions.{all_at_kept, all_stage_kept}
+use Rattle.qm_runs.proofs.Tables.Lines.{rows_count}
+use Rattle.qm_machine.specs.Facts.{Facts, Did}
+use Rattle.qm_machine.specs.Tries.{IsRuleKnown, Passes, Stops, IsTriable, asked, told_by, are_sure}
 
 -- ---- the lines of an instruction
--- its lines have its events
-rows_events : (p : Programs) (t : Tables) (r : ℕ) (i : Instr) → map (λ (w : Row). w.event) (rows p t r i) ≡ events_in i
-rows_events p t r (instr.Alloc q) = refl
-rows_events p t r _ = refl
-
--- and there are as many of them
-pub rows_count : (p : Programs) (t : Tables) (r : ℕ) (i : Instr) → length (rows p t r i) ≡ events_of i
-rows_count p t r (instr.Alloc q) = refl
-rows_count p t r _ = refl
+-- there are few of them
+events_few : (i : Instr) → events_of i ≤ 5
+events_few (instr.Alloc q) = omega arith
+events_few _ = omega arith
 
 -- a rank that a rule of a line asks about is the one that the instruction names
 module _ (n : ℕ) where
-  known_at : (ws : List Row) → AllByRecursion (λ w. IsRuleKnown n w.rule) ws → (k : ℕ) → IsRuleKnown n (rule_of (slice_get ws k))
-  known_at [] h k = tt
-  known_at (w ∷ ws) h zero = h.0
-  known_at (w ∷ ws) h (suc k) = known_at ws h.1 k
-
   rows_known : (p : Programs) (t : Tables) (r : ℕ) (i : Instr) → ((d : ℕ) → partner_of i ≡ Some d → d < n)
       → AllByRecursion (λ w. IsRuleKnown n w.rule) (rows p t r i)
   rows_known p t r (instr.CopyTo q to tag) h = (h to refl, (tt, (tt, tt)))
@@ -63,7 +57,7 @@ no_bad_rank true c x y o e = refl
 no_bad_rank false c x y o e = cc
 
 -- the rank that an instruction names is one of the ranks
-partner_below : (p : Programs) (r k : ℕ) (i : Instr) → IsReady p → slice_get (rank_of p r).instructions k ≡ Some i
+pub partner_below : (p : Programs) (r k : ℕ) (i : Instr) → IsReady p → slice_get (rank_of p r).instructions k ≡ Some i
     → (d : ℕ) → partner_of i ≡ Some d → d < length p.ranks
 partner_below p r k i ready is d names =
     let n = length p.ranks in
@@ -73,11 +67,6 @@ partner_below p r k i ready is d names =
     let named : option_or (partner_fault n r k (Some d)) slots ≡ None = ap (λ o. option_or (partner_fault n r k o) slots) (sym names) ∙ none in
     ltb-true d n (no_bad_rank (nat_lt d n) (d == r) _ _ slots named)
 
-pub rule_known : (p : Programs) (t : Tables) (r stage : ℕ) (i : Instr) → IsReady p → Some i ≡ current p t r
-    → IsRuleKnown (length p.ranks) (rule_of (row_at p t r i stage))
-rule_known p t r stage i ready stands =
-    known_at (length p.ranks) (rows p t r i) (rows_known (length p.ranks) p t r i (partner_below p r (t.parts r).at i ready (sym stands))) stage
-
 -- a rank with an instruction left stands below 100,000
 at_few : (p : Programs) (t : Tables) (r : ℕ) (i : Instr)
     → IsInRange p → r < length p.ranks → current p t r ≡ Some i → (t.parts r).at < 100000
@@ -86,48 +75,120 @@ at_few p t r i in_range known stands =
     let le = get_or-le-sum_by (λ (x : RankProgram). length x.instructions) p.ranks r idle_rank known in
     omega (arith, lt, le, in_range.few)
 
--- ---- the line at which a rank stands
-module _ {p : Programs} {t : Tables} {r : ℕ} {i : Instr} {stage : ℕ} (here : StandsAt p t r i stage) where
-  row_is : row_next p t r ≡ row_at p t r i stage
-  row_is = ap (row_in p t r) (sym here.instruction) ∙ ap (slice_get (rows p t r i)) (sym here.stage_so)
+-- ---- lines can be tried
+module _ (P : Row → Type 0) where
+  -- what is so of each line of each instruction is so of the next one
+  each_line : (p : Programs) (t : Tables) (r : ℕ) (i : Instr) (k : ℕ) (w : Row) → AllByRecursion P (rows p t r i) → slice_get (rows p t r i) k ≡ Some w → P w
+  each_line p t r i k w all is =
+      let ws = rows p t r i in
+      let this = All-get_or P ws k w (slice_get_within ws k w is) (All-from_recursion P ws all) in
+      subst P (get_or_from_slice_get ws k w w is) this
 
-  some_row : (w : Row) × (row_at p t r i stage ≡ Some w)
-  some_row =
-      let count = rows_count p t r i in
-      elim (slice_get_cases (rows p t r i) stage).1 [ inl h ↦ (h.0, h.2) | inr h ↦ absurd (omega (arith, h.0)) ]
+-- the tests of a letter are those that its act tells
+letter_told : (l : Letter) → list_of (letter_checks l) ≡ asked (list_of (letter_checks l)) ++ told_by (list_of (letter l))
+letter_told (Had w) = refl
+letter_told _ = refl
+
+if_told : (b : Bool) (l : Letter)
+    → list_of (few_if b (letter_checks l)) ≡ asked (list_of (few_if b (letter_checks l))) ++ told_by (list_of (few_if b (letter l)))
+if_told true l = letter_told l
+if_told false l = refl
+
+if_sure : (b : Bool) (l : Letter) → are_sure (few_if b (letter l)) ≡ true
+if_sure true l = refl
+if_sure false l = refl
+
+-- a correction is never refused
+fix_told : (b : Bool) (l : Letter) → letter_checks l ≡ Empty → [] ≡ told_by (list_of (few_if b (letter l)))
+fix_told true l e = sym (ap (λ (ks : Few Check). list_of ks) e)
+fix_told false l e = refl
+
+ok : (w : Row) → list_of w.checks ≡ asked (list_of w.checks) ++ told_by (list_of w.acts) → are_sure w.acts ≡ true → IsTriable w
+ok w checks sure = record { checks = checks; sure = sure }
+
+rows_triable : (p : Programs) (t : Tables) (r : ℕ) (i : Instr) → AllByRecursion IsTriable (rows p t r i)
+rows_triable p t r (instr.Alloc q) = (ok _ refl refl, tt)
+rows_triable p t r (instr.Do g) = (ok _ (letter_told (gate_letter (wire_in t r) g)) refl, tt)
+rows_triable p t r (instr.Free q) = (ok _ refl refl, tt)
+rows_triable p t r (instr.Measure q b) = (ok _ refl refl, tt)
+rows_triable p t r (instr.Set b v) = (ok _ refl refl, tt)
+rows_triable p t r (instr.Xor b c) = (ok _ refl refl, tt)
+rows_triable p t r (instr.When b g) = let l = gate_letter (wire_in t r) g in (ok _ (if_told (bit_of t r b) l) (if_sure (bit_of t r b) l), tt)
+rows_triable p t r (instr.SendBit b to tag) = (ok _ refl refl, tt)
+rows_triable p t r (instr.RecvBit b from tag) = (ok _ refl refl, tt)
+rows_triable p t r (instr.CopyTo q to tag) = (ok _ refl refl, (ok _ refl refl, (ok _ refl refl, tt)))
+rows_triable p t r (instr.CopyFrom q from tag) =
+    let x = (t.parts r).taken in
+    (ok _ refl refl, (ok _ (fix_told (first_bit x) (Flip (wire_of x)) refl) (if_sure (first_bit x) (Flip (wire_of x))), tt))
+rows_triable p t r (instr.UndoTo q to tag) = (ok _ refl refl, (ok _ refl refl, tt))
+rows_triable p t r (instr.UndoFrom q from tag) =
+    let b = first_bit (t.parts r).taken in
+    let l = Phase 4 (wire_in t r q) in
+    (ok _ refl refl, (ok _ (fix_told b l refl) (if_sure b l), tt))
+rows_triable p t r (instr.MoveTo q to tag) = (ok _ refl refl, (ok _ refl refl, (ok _ refl refl, (ok _ refl refl, (ok _ refl refl, tt)))))
+rows_triable p t r (instr.MoveFrom q from tag) =
+    let x = (t.parts r).taken in
+    let w = wire_of x in
+    (ok _ refl refl, (ok _ (fix_told (first_bit x) (Flip w) refl) (if_sure (first_bit x) (Flip w)), (ok _ (fix_told (second_bit x) (Phase 4 w) refl) (if_sure (second_bit x) (Phase 4 w)), tt)))
+rows_triable p t r (instr.ReachTo q to tag) =
+    let b = first_bit (t.parts r).taken in
+    let l = Phase 4 (wire_in t r q) in
+    (ok _ refl refl, (ok _ refl refl, (ok _ refl refl, (ok _ refl refl, (ok _ (fix_told b l refl) (if_sure b l), tt)))))
+rows_triable p t r (instr.ReachFrom q from tag) =
+    let x = (t.parts r).taken in
+    let w = wire_of x in
+    (ok _ refl refl, (ok _ (fix_told (first_bit x) (Flip w) refl) (if_sure (first_bit x) (Flip w)), (ok _ refl refl, (ok _ refl refl, (ok _ refl refl, tt)))))
+
+-- ---- the line at which a rank stands
+-- the instruction whose line it is
+pub record Line (p : Programs) (t : Tables) (r : ℕ) (w : Row) : Type 0 where
+  pub i : Instr
+  pub read : current p t r ≡ Some i
+  pub line : slice_get (rows p t r i) (t.parts r).stage ≡ Some w
+
+module _ (p : Programs) (t : Tables) (r : ℕ) (w : Row) (is : row_next p t r ≡ Some w) where
+  at : Line p t r w
+  at = by_read (current p t r) refl
+    where
+      by_read : (o : Option Instr) → current p t r ≡ o → Line p t r w
+      by_read None read = let none : row_next p t r ≡ None = ap (row_in p t r) read in cc
+      by_read (Some i) read = record { i = i; read = read; line = sym (ap (row_in p t r) read) ∙ is }
+
+  pub rule_known : IsReady p → IsRuleKnown (length p.ranks) w.rule
+  rule_known ready =
+      let n = length p.ranks in
+      each_line (λ x. IsRuleKnown n x.rule) p t r at.i (t.parts r).stage w
+      (rows_known n p t r at.i (partner_below p r (t.parts r).at at.i ready at.read)) at.line
+
+  pub triable_next : IsTriable w
+  triable_next = each_line IsTriable p t r at.i (t.parts r).stage w (rows_triable p t r at.i) at.line
 
   pub has_event_is : has_event p t r ≡ true
-  has_event_is = ap is_some (row_is ∙ some_row.1)
+  has_event_is = ap is_some is
 
-  pub enabled_is : {rule : Rule} {so : Bool} → rule_of (row_at p t r i stage) ≡ rule → so ≡ holds p t rule → enabled p t r ≡ so
-  enabled_is e asked = ap (row_holds p t) (row_is ∙ some_row.1) ∙ ap (holds p t) (ap rule_of (sym some_row.1) ∙ e) ∙ sym asked
+  pub enabled_is : {so : Bool} → so ≡ holds p t w.rule → enabled p t r ≡ so
+  enabled_is asked = ap (row_holds p t) is ∙ sym asked
 
-  pub event_is : (e : Event) → Some e ≡ slice_get (events_in i) stage → e ≡ event_of (row_next p t r)
-  event_is e is =
-      let event_in : Row → Event = λ w. w.event in
-      let read : slice_get (events_in i) stage ≡ option_map event_in (row_at p t r i stage) =
-      ap (λ es. slice_get es stage) (sym (rows_events p t r i)) ∙ slice_get-map event_in (rows p t r i) stage in
-      let event : Some e ≡ Some some_row.0.event = is ∙ read ∙ ap (option_map event_in) some_row.1 in
-      let same : e ≡ some_row.0.event = cc in
-      same ∙ ap event_of (sym (row_is ∙ some_row.1))
+  -- places in a program are few
+  pub place_few : IsInRange p → r < length p.ranks → ((t.parts r).at < 100000) × ((t.parts r).stage < 5)
+  place_few in_range known =
+      let count = rows_count p t r at.i in
+      let within = slice_get_within (rows p t r at.i) (t.parts r).stage w at.line in
+      (at_few p t r at.i in_range known at.read, omega (arith, count, within, events_few at.i))
 
-module _ {p : Programs} (f : Facts) {r : ℕ} {i : Instr} {stage : ℕ} (here : StandsAt p f.tables r i stage) where
-  pub passes_next : Passes f (row_checks (row_at p f.tables r i stage)) → Passes f (row_checks (row_next p f.tables r))
-  passes_next = subst (λ o. Passes f (row_checks o)) (sym (row_is here))
+module _ (p : Programs) (f : Facts) (r : ℕ) (w : Row) (is : row_next p f.tables r ≡ Some w) where
+  pub passes_next : Passes f (list_of w.checks) → Passes f (row_checks (row_next p f.tables r))
+  passes_next = subst (λ o. Passes f (row_checks o)) (sym is)
 
-  module _ (g : Facts) (did : Did f r (acts_of (row_at p f.tables r i stage)) g) where
-    pub advanced_next : (h : Facts) → h ≡ moved g r (events_of i) → Advanced p f r h
-    advanced_next h e =
-        let P : List Act → Type 0 = λ acts. Did f r acts g in
-        let w = (some_row here).0 in
-        let is = (some_row here).1 in
-        advanced p f g h r (events_of i) w (row_is here ∙ is) (ap events_at (sym here.instruction)) (subst P (ap acts_of is) did) e
+  pub stops_next : (c : Cause) → Stops f (list_of w.checks) c → Stops f (row_checks (row_next p f.tables r)) c
+  stops_next c = subst (λ o. Stops f (row_checks o) c) (sym is)
 
-    -- the rank still stands there after its acts, so that the next place can be counted
-    pub at_countable : IsInRange p → r < length p.ranks → (g.tables.parts r).at + 1 < 2 ^ 32
-    at_countable in_range known =
-        let few : (f.tables.parts r).at < 100000 = at_few p f.tables r i in_range known (sym here.instruction) in
-        let acts = acts_of (row_at p f.tables r i stage) in
-        let kept : (g.tables.parts r).at ≡ (f.tables.parts r).at =
-        ap (λ (t : Tables). (t.parts r).at) did.tables ∙ all_at_kept r r acts f.tables in
-        omega arith
+  -- the rank still stands there after its acts, so that the next place can be counted
+  pub at_countable : (g : Facts) → Did f r (list_of w.acts) g → IsInRange p → r < length p.ranks
+      → ((g.tables.parts r).at + 1 < 2 ^ 32) × ((g.tables.parts r).stage + 1 < 2 ^ 32)
+  at_countable g did in_range known =
+      let few = place_few p f.tables r w is in_range known in
+      let acts = list_of w.acts in
+      let at : (g.tables.parts r).at ≡ (f.tables.parts r).at = ap (λ (t : Tables). (t.parts r).at) did.tables ∙ all_at_kept r r acts f.tables in
+      let stage : (g.tables.parts r).stage ≡ (f.tables.parts r).stage = ap (λ (t : Tables). (t.parts r).stage) did.tables ∙ all_stage_kept r r acts f.tables in
+      (omega (arith, few.0), omega (arith, few.1))

@@ -1,7 +1,8 @@
 -- Each act on the tables and the store is the model's act
-use Rattle.std.proofs.Common.{◌≡◌, ℕ, ◌+◌, ◌-◌, ◌≤◌, ◌^◌, Bool, true, false, Some, List, [], ◌∷◌, ◌++◌, length, count_by, Contains, refl, sym, ap, subst, ◌∙◌, arith, append-nil, append_assoc, length-append}
+use Rattle.std.proofs.Common.{◌≡◌, ℕ, ◌+◌, ◌-◌, ◌≤◌, ◌^◌, Bool, true, false, Option, None, Some, unwrap_or, List, [], ◌∷◌, ◌++◌, length, count_by, Contains, refl, sym, ap, subst, ◌∙◌, arith, append-nil, append_assoc, length-append}
 use Rattle.std.proofs.lemmas.List.{length_push}
 use Rattle.std.proofs.lemmas.List.Sums.{count_by-le-length}
+use Rattle.std.proofs.lemmas.Option.{same_Some}
 use Rattle.qm_denot.specs.declared.Wire.{Wire}
 use Rattle.qm_denot.specs.declared.Letter.{Letter}
 use Rattle.qm_denot.specs.declared.Letter.TheVariants.{Phase, Flip, Had, Cx, Cz, Pair, Keep, Take, Rename}
@@ -9,14 +10,17 @@ use Rattle.qm_denot.specs.Circuits.{Circuit}
 use Rattle.qm_denot.specs.WireLists.{without_wire}
 use Rattle.qm_denot.specs.Stores.{Store, StandsFor, MayApply, MayGrow, live_after, IsSound as IsStoreSound}
 use Rattle.qm_instr.specs.declared.Lane.{Lane}
-use Rattle.qm_proto.specs.declared.Parcel.{Parcel}
-use Rattle.qm_proto.specs.Model.State.{Tables, with_part, far_made, near_made, near_last}
-use Rattle.qm_proto.specs.Model.Acts.{Act, Fresh, Twin, Apply, NearOut, Settle, Posts, Fills, Receives, ProtocolUsed, counted, done, all_letters}
+use Rattle.qm_denot.specs.declared.Parcel.{Parcel}
+use Rattle.qm_proto.specs.Model.State.{Tables, no_wire, with_at, with_part, far_made, near_made, near_last}
+use Rattle.qm_proto.specs.declared.Act.{Act}
+use Rattle.qm_proto.specs.declared.Act.TheVariants.{Fresh, Twin, Apply, NearOut, Settle, Posts, Fills, Receives, OwnUsed, ProtocolUsed, FirstKept, BitSet, SlotOut, FarOut}
+use Rattle.qm_proto.specs.Model.Acts.{counted, done, all_letters, more_at, less_at}
 use Rattle.qm_proto.specs.Model.May.{Limits, MayLetter, limits_after}
-use Rattle.qm_proto.specs.Model.Places.{InSlot, NearOf, FarOf}
-use Rattle.qm_proto.proofs.TidyChanges.{slot_changed, near_more, far_more, near_less}
+use Rattle.qm_proto.specs.Model.Places.{InSlot, NearOf, FarOf, IsPlaced, IsOnlyAt, IsOwn}
+use Rattle.qm_proto.proofs.TidyChanges.{slot_changed, near_more, far_more, near_less, far_less}
 use Rattle.qm_machine.specs.Facts.{Facts, IsSound, Can, Did, room_of, limits_of, is_pauli}
-use Rattle.qm_machine.proofs.LivePlaces.{AreLive, live_beside, live_more, live_less, live_settled, slot_comes, near_comes, far_comes, near_leaves, length-without_wire}
+use Rattle.qm_machine.specs.Tries.{MayGrowBy}
+use Rattle.qm_machine.proofs.LivePlaces.{AreLive, live_beside, live_more, live_less, live_settled, slot_comes, near_comes, far_comes, near_leaves, far_leaves, slot_leaves, length-without_wire}
 
 -- ---- what an act does beside the tables
 pub record Beside (f g : Facts) (ls : List Letter) : Type 0 where
@@ -87,8 +91,9 @@ module _ (f g : Facts) (r : ℕ) (same : SameStore f g) where
       (ap (λ (s : Limits). s.letters) left ∙ rw none (omega arith))
 
   -- parts and lanes may change, and no wire moves
-  same_live : (act : Act) → IsSound f → AreLive f.store.live (record f.tables { parts = (done r act f.tables).parts; lanes = (done r act f.tables).lanes })
-  same_live act sound = live_beside f.tables (done r act f.tables).parts (done r act f.tables).lanes f.store.live sound.live
+  same_live : (act : Act) → IsSound f
+      → AreLive f.store.live (record f.tables { parts = (done r act f.tables).parts; held = f.tables.held; lanes = (done r act f.tables).lanes })
+  same_live act sound = live_beside f.tables (done r act f.tables).parts f.tables.held (done r act f.tables).lanes f.store.live sound.live
 
   pub did_post : (a : Lane) (x : Parcel) → Can f r (Posts a x ∷ []) → g.tables ≡ done r (Posts a x) f.tables → Did f r (Posts a x ∷ []) g
   did_post a x can tables = did_quietly (Posts a x) can tables refl refl (same_live (Posts a x) can.sound)
@@ -102,10 +107,22 @@ module _ (f g : Facts) (r : ℕ) (same : SameStore f g) where
   pub did_use : Can f r (ProtocolUsed ∷ []) → g.tables ≡ done r ProtocolUsed f.tables → Did f r (ProtocolUsed ∷ []) g
   did_use can tables = did_quietly ProtocolUsed can tables refl refl (same_live ProtocolUsed can.sound)
 
+  pub did_use_own : Can f r (OwnUsed ∷ []) → g.tables ≡ done r OwnUsed f.tables → Did f r (OwnUsed ∷ []) g
+  did_use_own can tables = did_quietly OwnUsed can tables refl refl (same_live OwnUsed can.sound)
+
+  pub did_keep : (m : Bool) → Can f r (FirstKept m ∷ []) → g.tables ≡ done r (FirstKept m) f.tables → Did f r (FirstKept m ∷ []) g
+  did_keep m can tables = did_quietly (FirstKept m) can tables refl refl (same_live (FirstKept m) can.sound)
+
+  pub did_set : (b : ℕ) (v : Bool) → Can f r (BitSet b v ∷ []) → g.tables ≡ done r (BitSet b v) f.tables → Did f r (BitSet b v ∷ []) g
+  did_set b v can tables = did_quietly (BitSet b v) can tables refl refl (same_live (BitSet b v) can.sound)
+
   pub did_settle : (h : Wire) (q : ℕ) → Can f r (Settle h q ∷ []) → g.tables ≡ done r (Settle h q) f.tables → Did f r (Settle h q ∷ []) g
   did_settle h q can tables =
+      let t = f.tables in
+      let u = slot_changed (far_less t r h) r q (Some h) in
       did_quietly (Settle h q) can tables refl refl
-      (live_settled f.tables r q h f.store.live can.may.0.only can.may.0.empty can.sound.live)
+      (live_beside u t.parts (less_at t.held r) t.lanes f.store.live
+      (live_settled t r q h f.store.live can.may.0.only can.may.0.empty can.sound.live))
 
 -- ---- a fresh wire
 pub did_fresh : (f g : Facts) (r q : ℕ) → Can f r (Fresh q ∷ []) → g.tables ≡ done r (Fresh q) f.tables → Beside f g []
@@ -116,7 +133,7 @@ did_fresh f g r q can tables beside live =
     let u = with_part t r (counted (t.parts r)) in
     let ws = f.store.live in
     let more : length g.store.live ≡ length ws + 1 = ap length live ∙ length_push ws w in
-    let placed = live_more u (slot_changed u r q (Some w)) w (InSlot r q) ws (slot_comes u r q w can.may.0.empty) (live_beside t u.parts t.lanes ws can.sound.live) in
+    let placed = live_more u (slot_changed u r q (Some w)) w (InSlot r q) ws (slot_comes u r q w can.may.0.empty) (live_beside t u.parts t.held t.lanes ws can.sound.live) in
     let capacity = beside.capacity in
     did f g r (Fresh q) can tables beside (subst (λ xs. AreLive xs (done r (Fresh q) t)) (sym live) placed) (omega arith) refl refl (omega arith)
 
@@ -139,42 +156,45 @@ did_twin f g r to can tables beside live =
     let t = f.tables in
     let e = near_made t r in
     let w = far_made t r in
-    let u = with_part t r (counted (t.parts r)) in
+    let u = record t { parts = with_at t.parts r (counted (t.parts r)); held = more_at (more_at t.held r) to } in
     let ws = f.store.live in
     let more : length g.store.live ≡ length ws + 2 = ap length live ∙ length-append ws (e ∷ w ∷ []) in
-    let near = live_more u (near_more u r e) e (NearOf r) ws (near_comes u r e) (live_beside t u.parts t.lanes ws can.sound.live) in
+    let near = live_more u (near_more u r e) e (NearOf r) ws (near_comes u r e) (live_beside t u.parts u.held t.lanes ws can.sound.live) in
     let both = live_more (near_more u r e) (far_more (near_more u r e) to w) w (FarOf to) (ws ++ e ∷ []) (far_comes (near_more u r e) to w) near in
     let capacity = beside.capacity in
     did f g r (Twin to) can tables beside (subst (λ xs. AreLive xs (done r (Twin to) t)) (append_assoc ws (e ∷ []) (w ∷ []) ∙ sym live) both)
     (omega arith) refl refl (omega arith)
 
 -- ---- a letter that moves no wire
-live_kept : (l : Letter) (t : Tables) (ws : List Wire) → MayLetter l t → live_after l ws ≡ ws
-live_kept (Phase k w) t ws h = refl
-live_kept (Flip w) t ws h = refl
-live_kept (Had w) t ws h = refl
-live_kept (Cx c v) t ws h = refl
-live_kept (Cz c v) t ws h = refl
-live_kept (Pair a b) t ws h = absurd h
-live_kept (Keep w m) t ws h = refl
-live_kept (Take w m) t ws h = absurd h
-live_kept (Rename a b) t ws h = absurd h
+live_kept : (r : ℕ) (l : Letter) (t : Tables) (ws : List Wire) → MayLetter r l t → live_after l ws ≡ ws
+live_kept r (Phase k w) t ws h = refl
+live_kept r (Flip w) t ws h = refl
+live_kept r (Had w) t ws h = refl
+live_kept r (Cx c v) t ws h = refl
+live_kept r (Cz c v) t ws h = refl
+live_kept r (Pair a b) t ws h = absurd h
+live_kept r (Keep w m) t ws h = refl
+live_kept r (Take w m) t ws h = absurd h
+live_kept r (Rename a b) t ws h = absurd h
 
-pub may_apply : (f : Facts) (l : Letter) → IsSound f → MayGrow f.store → MayLetter l f.tables → MayApply l f.store
-may_apply f (Phase k w) sound grow h = (h.0, (sound.live w).1 h.1)
-may_apply f (Flip w) sound grow h = (sound.live w).1 h
-may_apply f (Had w) sound grow h = ((sound.live w).1 h, grow)
-may_apply f (Cx c v) sound grow h = ((sound.live c).1 h.first, (sound.live v).1 h.second, h.differ)
-may_apply f (Cz c v) sound grow h = ((sound.live c).1 h.first, (sound.live v).1 h.second, h.differ)
-may_apply f (Pair a b) sound grow h = absurd h
-may_apply f (Keep w m) sound grow h = (sound.live w).1 h
-may_apply f (Take w m) sound grow h = absurd h
-may_apply f (Rename a b) sound grow h = absurd h
+own_lives : (f : Facts) (r : ℕ) (w : Wire) → IsSound f → IsOwn f.tables r w → Contains f.store.live w
+own_lives f r w sound h = (sound.live w).1 (h.0, h.1)
+
+pub may_apply : (f : Facts) (r : ℕ) (l : Letter) → IsSound f → MayGrowBy (Apply l) f.store → MayLetter r l f.tables → MayApply l f.store
+may_apply f r (Phase k w) sound grow h = (h.0, own_lives f r w sound h.1)
+may_apply f r (Flip w) sound grow h = own_lives f r w sound h
+may_apply f r (Had w) sound grow h = (own_lives f r w sound h, grow refl)
+may_apply f r (Cx c v) sound grow h = (own_lives f r c sound h.first, own_lives f r v sound h.second, h.differ)
+may_apply f r (Cz c v) sound grow h = (own_lives f r c sound h.first, own_lives f r v sound h.second, h.differ)
+may_apply f r (Pair a b) sound grow h = absurd h
+may_apply f r (Keep w m) sound grow h = own_lives f r w sound h
+may_apply f r (Take w m) sound grow h = absurd h
+may_apply f r (Rename a b) sound grow h = absurd h
 
 pub did_letter : (f g : Facts) (r : ℕ) (l : Letter) → Can f r (Apply l ∷ []) → g.tables ≡ f.tables → Beside f g (l ∷ [])
     → g.store.live ≡ live_after l f.store.live → Did f r (Apply l ∷ []) g
 did_letter f g r l can tables beside live =
-    let same : g.store.live ≡ f.store.live = live ∙ live_kept l f.tables f.store.live can.may.0.0 in
+    let same : g.store.live ≡ f.store.live = live ∙ live_kept r l f.tables f.store.live can.may.0.0 in
     let few : length g.store.live ≡ length f.store.live = ap length same in
     let capacity = beside.capacity in
     did f g r (Apply l) can tables beside (subst (λ xs. AreLive xs f.tables) (sym same) can.sound.live) (omega arith) refl refl (omega arith)
@@ -194,5 +214,51 @@ did_near_out f g r m can store tables beside live =
     let size : length g.store.live ≡ length (without_wire ws w) = ap length live in
     let few = store.few in
     let capacity = beside.capacity in
-    let gone = live_less t (near_less t r w) w ws (near_leaves t r w can.may.0.only) can.sound.live in
-    did f g r (NearOut m) can tables beside (subst (λ xs. AreLive xs (near_less t r w)) (sym live) gone) (omega arith) refl refl (omega arith)
+    let less = live_less t (near_less t r w) w ws (near_leaves t r w can.may.0.only) can.sound.live in
+    let gone = live_beside (near_less t r w) t.parts (less_at t.held r) t.lanes (without_wire ws w) less in
+    did f g r (NearOut m) can tables beside (subst (λ xs. AreLive xs (done r (NearOut m) t)) (sym live) gone) (omega arith) refl refl (omega arith)
+
+-- ---- a wire that is measured away, by whichever act
+module _ (f g : Facts) (r : ℕ) (w : Wire) (m : Bool) (act : Act) (can : Can f r (act ∷ [])) (store : IsStoreSound f.store) (here : IsPlaced f.tables w) where
+  taken_lives : Contains f.store.live w
+  taken_lives = (can.sound.live w).1 here
+
+  did_take : g.tables ≡ done r act f.tables → Beside f g (Take w m ∷ []) → all_letters r (act ∷ []) f.tables ≡ Take w m ∷ []
+      → limits_after act (limits_of f) ≡ record (limits_of f) { wires = room_of f.store + 1; letters = (2 ^ 32 - f.letters) - 1 }
+      → g.store.live ≡ without_wire f.store.live w → AreLive (without_wire f.store.live w) (done r act f.tables) → Did f r (act ∷ []) g
+  did_take tables beside letters left live gone =
+      let ws = f.store.live in
+      let fewer : length (without_wire ws w) + 1 ≡ length ws = length-without_wire ws w store.distinct taken_lives in
+      let size : length g.store.live ≡ length (without_wire ws w) = ap length live in
+      let few = store.few in
+      let capacity = beside.capacity in
+      let room : room_of g.store ≡ room_of f.store + 1 = omega arith in
+      did f g r act can tables (subst (Beside f g) (sym letters) beside) (subst (λ xs. AreLive xs (done r act f.tables)) (sym live) gone)
+      (room ∙ sym (ap (λ (s : Limits). s.wires) left)) (ap (λ (s : Limits). s.ranks) left) (ap (λ (s : Limits). s.parcels) left)
+      (ap (λ (s : Limits). s.letters) left ∙ rw letters (omega arith))
+
+pub did_far_out : (f g : Facts) (r : ℕ) (w : Wire) (m : Bool) → Can f r (FarOut w m ∷ []) → IsStoreSound f.store
+    → g.tables ≡ done r (FarOut w m) f.tables → Beside f g (Take w m ∷ [])
+    → g.store.live ≡ without_wire f.store.live w → Did f r (FarOut w m ∷ []) g
+did_far_out f g r w m can store tables beside live =
+    let t = f.tables in
+    let ws = f.store.live in
+    let less = live_less t (far_less t r w) w ws (far_leaves t r w can.may.0.only) can.sound.live in
+    did_take f g r w m (FarOut w m) can store (FarOf r, can.may.0.only.here) tables beside refl refl live
+    (live_beside (far_less t r w) t.parts (less_at t.held r) t.lanes (without_wire ws w) less)
+
+-- the wire of a slot that may be emptied is the one that is read there
+pub slot_wire : (f : Facts) (r q : ℕ) (m : Bool) (w : Wire) → Can f r (SlotOut q m ∷ []) → f.tables.slots r q ≡ Some w → IsOnlyAt f.tables w (InSlot r q)
+slot_wire f r q m w can is =
+    let only = can.may.0.only in
+    subst (λ v. IsOnlyAt f.tables v (InSlot r q)) (same_Some can.may.0.wire w (sym only.here ∙ is)) only
+
+pub did_slot_out : (f g : Facts) (r q : ℕ) (m : Bool) (w : Wire) → Can f r (SlotOut q m ∷ []) → f.tables.slots r q ≡ Some w → IsStoreSound f.store
+    → g.tables ≡ done r (SlotOut q m) f.tables → Beside f g (Take w m ∷ [])
+    → g.store.live ≡ without_wire f.store.live w → Did f r (SlotOut q m ∷ []) g
+did_slot_out f g r q m w can is store tables beside live =
+    let letters : all_letters r (SlotOut q m ∷ []) f.tables ≡ Take w m ∷ [] = ap (λ (o : Option Wire). Take (unwrap_or o no_wire) m ∷ []) is in
+    let t = f.tables in
+    let leaves = slot_leaves t r q w (slot_wire f r q m w can is) in
+    did_take f g r w m (SlotOut q m) can store (InSlot r q, is) tables beside letters refl live
+    (live_less t (slot_changed t r q None) w f.store.live leaves can.sound.live)

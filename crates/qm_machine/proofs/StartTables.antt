@@ -43,4 +43,5 @@ start_tables ranks m p is empty =
     let each = λ (k : ℕ). start_view ranks p.ranks k is in
     same_tables (tables_of ranks m) (tables_at_start p)
     (fun_ext (λ k. ap (λ (v : RankView). v.part) (each k))) (fun_ext (λ k. ap (λ (v : RankView). v.slots) (each k)))
-    (fun_ext (λ k. ap (λ (v : RankView). v.near) (each k))) (fun_ext (λ k. ap (λ (v : RankView). v.far) (each k))) empty
+    (fun_ext (λ k. ap (λ (v : RankView). v.near) (each k))) (fun_ext (λ k. ap (λ (v : RankView). v.far) (each k)))
+    (fun_ext (λ k. ap (λ (v : RankView). v.held) (each k))) empty

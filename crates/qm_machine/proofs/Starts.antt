@@ -1,7 +1,8 @@
 -- A machine before its first event, and bounds on what its readers tell
-use Rattle.std.proofs.Common.{◌≡◌, ◌<◌, ◌≤◌, ◌↔◌, ℕ, List, [], Option, None, Contains, length, count_by, refl, sym, ap, subst, ◌∙◌, arith}
+use Rattle.std.proofs.Common.{◌≡◌, ◌<◌, ◌≤◌, ◌↔◌, ℕ, List, [], Option, None, Some, Contains, length, count_by, refl, sym, ap, subst, ◌∙◌, arith}
 use Rattle.qm_denot.specs.declared.Wire.{Wire}
 use Rattle.qm_denot.specs.Stores.{Store, StandsFor}
+use Rattle.qm_denot.proofs.Sets.{has-no_wires}
 use Rattle.qm_instr.specs.Programs.{Programs, IsInRange, rank_of}
 use Rattle.qm_instr.proofs.Ranges.{rank_of-in_range}
 use Rattle.qm_check.specs.Checks.{IsReady, capacity_of}
@@ -10,16 +11,16 @@ use Rattle.qm_proto.specs.Model.Places.{InSlot, NearOf, FarOf, IsPlaced}
 use Rattle.qm_proto.specs.Model.Runs.{halves}
 use Rattle.qm_proto.specs.Model.Schedules.{replay, tables_at_start, state_at_start, IsLegal}
 use Rattle.qm_machine.specs.declared.Halt.{Halt}
-use Rattle.qm_machine.specs.Built.{IsBuilt}
 use Rattle.qm_machine.specs.Facts.{Facts, IsAtStart, IsSound, is_pauli}
-use Rattle.qm_machine.specs.Keeps.{IsKept, event_total}
-use Rattle.qm_machine.proofs.Standing.{well, well_roomy}
+use Rattle.qm_runs.specs.Tables.Totals.{event_total}
+use Rattle.qm_machine.specs.Keeps.{IsKept}
+use Rattle.qm_runs.proofs.Tables.Standing.{well, well_roomy}
 
 -- nothing has a place at the start
 unplaced : (p : Programs) (w : Wire) → ¬ (IsPlaced (tables_at_start p) w)
 unplaced p w (InSlot r q, at) = cc
-unplaced p w (NearOf r, (k, few, at)) = omega arith
-unplaced p w (FarOf r, (k, few, at)) = omega arith
+unplaced p w (NearOf r, at) = let none = has-no_wires w in cc
+unplaced p w (FarOf r, at) = let none = has-no_wires w in cc
 
 legal_nothing : (p : Programs) → IsLegal p []
 unfolding IsLegal
@@ -39,15 +40,14 @@ sound_at_start p s f a empty =
       fewer = omega arith;
     }
 
-pub kept_at_start : (p : Programs) (s : Store) (f : Facts) (room : ℕ) (rs : List ℕ) → IsReady p → IsInRange p → IsBuilt p → IsAtStart p s f
+pub kept_at_start : (p : Programs) (s : Store) (f : Facts) (room : ℕ) (rs : List ℕ) → IsReady p → IsInRange p → IsAtStart p s f
     → StandsFor s [] → s.live ≡ [] → capacity_of p ≤ s.capacity → event_total p ≤ room → rs ≡ [] → IsKept p rs None f room
-kept_at_start p s f room rs ready ranged built a stands empty wide turns e =
+kept_at_start p s f room rs ready ranged a stands empty wide turns e =
     subst (λ (xs : List ℕ). IsKept p xs None f room) (sym e)
     (let back : state_at_start p ≡ replay p [] = sym (replay_nothing p) in
     record {
       ready = ready;
       in_range = ranged;
-      built = built;
       legal = legal_nothing p;
       tables = a.tables ∙ ap (λ (x : State). x.tables) back;
       stands = subst (λ (x : State). StandsFor f.store x.circuit) back (subst (λ (x : Store). StandsFor x []) (sym a.store) stands);
@@ -65,8 +65,20 @@ module _ (p : Programs) (rs : List ℕ) (h : Option Halt) (f : Facts) (room : �
   -- a rank holds no more halves than its buffer has room for
   pub kept_halves : halves f.tables r ≤ (rank_of p r).buffer
   kept_halves =
-      subst (λ (t : Tables). halves t r ≤ (rank_of p r).buffer) (sym k.tables) ((well_roomy p (replay p rs).tables k.in_range (well p k.ready k.in_range k.built rs k.legal)).halves_few r known)
+      subst (λ (t : Tables). halves t r ≤ (rank_of p r).buffer) (sym k.tables) ((well_roomy p (replay p rs).tables k.in_range (well p k.ready k.in_range rs k.legal)).halves_few r known)
 
   -- which are 8 at most
   pub kept_halves_few : halves f.tables r ≤ 8
   kept_halves_few = omega (arith, kept_halves, (rank_of-in_range p r known k.in_range).most_buffer)
+
+-- a rank that there isn't has no wire
+pub no_slot_elsewhere : (p : Programs) (rs : List ℕ) (h : Option Halt) (f : Facts) (room : ℕ) → IsKept p rs h f room
+    → (r q : ℕ) → ¬ (r < length p.ranks) → (replay p rs).tables.slots r q ≡ None
+no_slot_elsewhere p rs h f room k r q unknown = by_slot (t.slots r q) refl
+  where
+    t : Tables
+    t = (replay p rs).tables
+
+    by_slot : (o : Option Wire) → t.slots r q ≡ o → o ≡ None
+    by_slot None e = refl
+    by_slot (Some w) e = absurd (unknown ((well_roomy p t k.in_range (well p k.ready k.in_range rs k.legal)).slot_known r q w e).0)

@@ -9,7 +9,8 @@ use Rattle.qm_instr.specs.declared.Lane.{Lane}
 use Rattle.qm_instr.specs.Programs.{Programs}
 use Rattle.qm_check.specs.Messages.{lane_sends}
 use Rattle.qm_proto.specs.Model.State.{Tables, with_part}
-use Rattle.qm_proto.specs.Model.Acts.{Act, all_done, all_letters}
+use Rattle.qm_proto.specs.declared.Act.{Act}
+use Rattle.qm_proto.specs.Model.Acts.{all_done, all_letters}
 use Rattle.qm_proto.specs.Model.Runs.{moved_on}
 use Rattle.qm_proto.specs.Model.Schedules.{tables_at_start}
 use Rattle.qm_proto.specs.Model.Places.{IsPlaced}

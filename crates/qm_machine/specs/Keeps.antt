@@ -1,30 +1,32 @@
 -- What a machine shows, what its type keeps, and what a step makes of it
-use Rattle.std.specs.Prelude.{◌≡◌, ◌≢◌, ℕ, ◌<◌, ◌≤◌, ◌↔◌, ◌⊎◌, true, false, List, [], ◌∷◌, ◌++◌, Option, Some, None, length, count_by, sum_by, Contains}
+use Rattle.std.specs.Prelude.{◌≡◌, ◌≢◌, ℕ, ◌<◌, ◌≤◌, ◌↔◌, ◌⊎◌, true, false, List, [], ◌∷◌, ◌++◌, Option, Some, None, length, count_by, Contains}
 use Rattle.qm_denot.specs.declared.Wire.{Wire}
 use Rattle.qm_denot.specs.Stores.{Store, StandsFor}
 use Rattle.qm_instr.specs.declared.Lane.{Lane}
-use Rattle.qm_instr.specs.Counts.{events_of}
 use Rattle.qm_instr.specs.Programs.{Programs, IsInRange}
 use Rattle.qm_check.specs.Checks.{IsReady, capacity_of}
 use Rattle.qm_check.specs.Messages.{lane_sends}
 use Rattle.qm_proto.specs.declared.Cause.{Cause}
 use Rattle.qm_proto.specs.declared.Cause.TheVariants as cause
 use Rattle.qm_proto.specs.declared.Event.{Event}
+use Rattle.qm_proto.specs.declared.Row.{Row}
+use Rattle.qm_proto.specs.declared.Rule.{Rule}
+use Rattle.qm_proto.specs.declared.Rule.TheVariants.{Always, PairRoom, Engaged, Filled}
 use Rattle.qm_proto.specs.Model.State.{State, Tables}
 use Rattle.qm_proto.specs.Model.Runs.{row_next, enabled, has_event, IsRefused}
 use Rattle.qm_proto.specs.Model.Schedules.{replay, IsLegal, IsStuck, IsLowestLeft, MayStep, AllEnded}
 use Rattle.qm_proto.specs.Model.Places.{IsPlaced}
 use Rattle.qm_proto.specs.Model.Tidy.{IsTidy}
+use Rattle.qm_runs.specs.Safety.States.{IsSafe}
+use Rattle.qm_runs.specs.Tables.Totals.{event_total}
 use Rattle.qm_machine.specs.declared.Halt.{Halt}
 use Rattle.qm_machine.specs.declared.State as answer
 use Rattle.qm_machine.specs.declared.State.TheVariants as state
 use Rattle.qm_machine.specs.declared.Step.{Step}
 use Rattle.qm_machine.specs.declared.Step.TheVariants as step
 use Rattle.qm_machine.specs.declared.Why.{Why}
-use Rattle.qm_machine.specs.Built.{IsBuilt}
+use Rattle.qm_machine.specs.declared.Why.TheVariants.{LaneEmpty, NoRoom, PartnerElsewhere}
 use Rattle.qm_machine.specs.Facts.{Facts, IsSound, is_pauli}
-use Rattle.qm_machine.specs.Tries.{rule_of, event_of}
-use Rattle.qm_machine.specs.Turns.{why_of}
 
 -- the programs, the schedule so far, the halt where a step halted the machine, and the store
 pub record MachineView (A : Type 0) : Type 0 where
@@ -63,19 +65,37 @@ MayHalt p schedule (Some h) = HaltsAt p schedule h
 abbrev pub halt_of : ℕ → List ℕ → Cause → Halt
 halt_of r schedule c = record { rank = r; turns = length schedule; cause = c }
 
--- what every machine keeps: its programs have no fault and are built, its schedule is legal, its store stands for the circuit of the
--- schedule's replay and its live wires are those that have a place there, each has one, and a halt stands at the schedule's end
+-- what every machine keeps: its programs have no fault, its schedule is legal, its store stands for the circuit of the
+-- schedule's replay and its live wires are those that have a place there, its state is safe, and a halt stands at the schedule's end
 pub record Keeps {A : Type 0} (store : A → Store) (m : MachineView A) : Type 0 where
   pub ready : IsReady m.programs
   pub in_range : IsInRange m.programs
-  pub built : IsBuilt m.programs
   pub legal : IsLegal m.programs m.schedule
   pub short : length m.schedule ≤ 500000
   pub stands : StandsFor (store m.amps) (state_of m).circuit
   pub placed : (w : Wire) → Contains (store m.amps).live w ↔ IsPlaced (state_of m).tables w
   pub tidy : IsTidy (state_of m).tables
+  pub safe : IsSafe m.programs m.schedule
   pub room : capacity_of m.programs ≤ (store m.amps).capacity
   pub halt : MayHalt m.programs m.schedule m.halted
+
+-- ---- a rank's next event
+-- its name, where there is one
+abbrev pub event_of : Option Row → Option Event
+event_of None = None
+event_of (Some w) = Some w.event
+
+-- what a rank lacks where a rule doesn't hold
+abbrev pub lacking : Rule → Option Why
+lacking Always = None
+lacking (PairRoom a) = Some NoRoom
+lacking (Engaged a) = Some PartnerElsewhere
+lacking (Filled a) = Some LaneEmpty
+
+-- and where the rule of its next event doesn't
+abbrev pub why_of : Option Row → Option Why
+why_of None = None
+why_of (Some w) = lacking w.rule
 
 -- ---- what a step answers
 
@@ -90,7 +110,7 @@ pub record IsSame {A : Type 0} (store : A → Store) (m n : MachineView A) : Typ
 pub record StepDid {A : Type 0} (store : A → Store) (m : MachineView A) (r : ℕ) (event : Event) (n : MachineView A) : Type 0 where
   pub running : m.halted ≡ None
   pub may : MayStep m.programs (state_of m) r
-  pub event_so : event ≡ event_of (row_next m.programs (state_of m).tables r)
+  pub event_so : event_of (row_next m.programs (state_of m).tables r) ≡ Some event
   pub programs : n.programs ≡ m.programs
   pub schedule : n.schedule ≡ m.schedule ++ r ∷ []
   pub short : length n.schedule ≤ 500000
@@ -102,7 +122,7 @@ pub record StepBlocked {A : Type 0} (store : A → Store) (m : MachineView A) (r
   pub left : has_event m.programs (state_of m).tables r ≡ true
   pub unable : enabled m.programs (state_of m).tables r ≡ false
   pub moves : ¬ IsStuck m.programs (state_of m).tables
-  pub why_so : why ≡ why_of (rule_of (row_next m.programs (state_of m).tables r))
+  pub why_so : why_of (row_next m.programs (state_of m).tables r) ≡ Some why
   pub same : IsSame store m n
 
 -- a rank has no event left
@@ -132,6 +152,22 @@ StepIs store m r (step.Blocked why) n = StepBlocked store m r why n
 StepIs store m r step.Ended n = StepEnded store m r n
 StepIs store m r step.Halted n = StepStays store m n ⊎ StepHalts store m r n
 
+-- ---- what a step may assume on its way
+-- the machine isn't halted, and rank r's next event, which this line has, is enabled
+pub record MayGo {A : Type 0} (m : MachineView A) (r : ℕ) (w : Row) : Type 0 where
+  pub running : m.halted ≡ None
+  pub known : r < length m.programs.ranks
+  pub next : row_next m.programs (state_of m).tables r ≡ Some w
+  pub able : enabled m.programs (state_of m).tables r ≡ true
+
+-- the machine isn't halted, and rank r's next event isn't enabled, for this reason
+pub record MustWait {A : Type 0} (m : MachineView A) (r : ℕ) (why : Why) : Type 0 where
+  pub running : m.halted ≡ None
+  pub known : r < length m.programs.ranks
+  pub left : has_event m.programs (state_of m).tables r ≡ true
+  pub unable : enabled m.programs (state_of m).tables r ≡ false
+  pub why_so : why_of (row_next m.programs (state_of m).tables r) ≡ Some why
+
 -- ---- what a machine tells of its state
 
 -- some rank has an event left
@@ -155,15 +191,10 @@ StateIs m (state.Halted h) = m.halted ≡ Some h
 
 -- ---- how a machine is kept
 
--- how many events all instructions have
-abbrev pub event_total : Programs → ℕ
-event_total p = sum_by (λ r. sum_by events_of r.instructions) p.ranks
-
 -- the body is the schedule's replay, and there is room for every entry that the schedule may have
 pub record IsKept (p : Programs) (schedule : List ℕ) (h : Option Halt) (f : Facts) (room : ℕ) : Type 0 where
   pub ready : IsReady p
   pub in_range : IsInRange p
-  pub built : IsBuilt p
   pub legal : IsLegal p schedule
   pub tables : f.tables ≡ (replay p schedule).tables
   pub stands : StandsFor f.store (replay p schedule).circuit

@@ -1,18 +1,23 @@
 -- What a try of an event comes to
-use Rattle.std.specs.Prelude.{◌≡◌, ℕ, ◌+◌, ◌<◌, true, List, [], Option, Some, None, Result, MatchResult, length, count_by, ◌++◌, slice_get}
+use Rattle.std.specs.Prelude.{◌≡◌, ℕ, ◌+◌, ◌<◌, Bool, true, false, ◌&&◌, List, [], ◌∷◌, Option, Some, None, Result, MatchResult, length, count_by, ◌++◌}
 use Rattle.qm_denot.specs.Circuits.{Circuit}
-use Rattle.qm_denot.specs.Stores.{StandsFor}
-use Rattle.qm_instr.specs.declared.Instr.{Instr}
+use Rattle.qm_denot.specs.declared.Letter.TheVariants.{Had}
+use Rattle.qm_denot.specs.Stores.{Store, StandsFor, MayGrow, Overflows}
 use Rattle.qm_instr.specs.Programs.{Programs}
+use Rattle.qm_check.specs.Checks.{IsReady}
 use Rattle.qm_proto.specs.declared.Cause.{Cause}
-use Rattle.qm_proto.specs.declared.Event.{Event}
-use Rattle.qm_proto.specs.declared.Event.TheVariants as event
 use Rattle.qm_proto.specs.declared.Rule.{Rule}
 use Rattle.qm_proto.specs.declared.Rule.TheVariants.{Always, PairRoom, Engaged, Filled}
-use Rattle.qm_proto.specs.Model.State.{Tables}
-use Rattle.qm_proto.specs.Model.Acts.{Act}
-use Rattle.qm_proto.specs.Model.Rows.{Check, Row, rows}
-use Rattle.qm_proto.specs.Model.Runs.{FirstFails, NoneFails, row_checks, row_next, enabled, next_tables, next_letters}
+use Rattle.qm_proto.specs.declared.Act.{Act}
+use Rattle.qm_proto.specs.declared.Act.TheVariants.{Twin, Apply}
+use Rattle.qm_proto.specs.declared.Few.{Few}
+use Rattle.qm_proto.specs.declared.Few.TheVariants.{Empty, One, Two, Three}
+use Rattle.qm_proto.specs.declared.Check.TheVariants.{Possible, Zero, Equal, Fits}
+use Rattle.qm_proto.specs.Model.Acts.{list_of}
+use Rattle.qm_proto.specs.declared.Check.{Check}
+use Rattle.qm_proto.specs.declared.Row.{Row}
+use Rattle.qm_proto.specs.Model.Rows.{letter_checks}
+use Rattle.qm_proto.specs.Model.Runs.{FirstFails, NoneFails, next_tables, next_letters}
 use Rattle.qm_proto.specs.Model.May.{AllMayCheck}
 use Rattle.qm_machine.specs.Facts.{Facts, Can, Did, IsSound, is_pauli}
 
@@ -24,52 +29,76 @@ Passes f checks = (c : Circuit) → StandsFor f.store c → NoneFails c checks
 abbrev pub Stops : Facts → List Check → Cause → Type 0
 Stops f checks cause = (c : Circuit) → StandsFor f.store c → FirstFails c checks cause
 
--- the line of the table for an instruction at a stage
-abbrev pub row_at : Programs → Tables → ℕ → Instr → ℕ → Option Row
-row_at p t r i stage = slice_get (rows p t r i) stage
+-- what the tests say where they were asked
+abbrev pub Asked : Facts → List Check → Option Cause → Type 0
+Asked f checks None = Passes f checks
+Asked f checks (Some cause) = Stops f checks cause
 
-abbrev pub acts_of : Option Row → List Act
-acts_of None = []
-acts_of (Some w) = w.acts
+-- the tests that are asked before the acts: all but whether a `Had` fits, which its act tells
+abbrev pub asked : List Check → List Check
+asked [] = []
+asked (Possible w m ∷ ks) = Possible w m ∷ asked ks
+asked (Zero w ∷ ks) = Zero w ∷ asked ks
+asked (Equal w v ∷ ks) = Equal w v ∷ asked ks
+asked (Fits w ∷ ks) = asked ks
 
-abbrev pub rule_of : Option Row → Rule
-rule_of None = Always
-rule_of (Some w) = w.rule
+-- the tests that acts tell themselves: whether a `Had` fits that is the only one
+abbrev pub told_by : List Act → List Check
+told_by (Apply l ∷ []) = list_of (letter_checks l)
+told_by _ = []
 
-abbrev pub event_of : Option Row → Event
-event_of None = event.Alloc
-event_of (Some w) = w.event
+-- the act is not a `Had`, and so never refused
+abbrev pub is_sure : Act → Bool
+is_sure (Apply (Had w)) = false
+is_sure _ = true
 
--- rank r may do the acts of the line, and make its tests
-pub record CanTry (f : Facts) (r : ℕ) (row : Option Row) : Type 0 where
-  pub acts : Can f r (acts_of row)
-  pub checks : AllMayCheck f.tables (row_checks row)
+-- the act neither is a `Had` nor prepares a pair, and so leaves the exponent as it is
+abbrev pub is_quiet : Act → Bool
+is_quiet (Apply (Had w)) = false
+is_quiet (Twin to) = false
+is_quiet _ = true
 
--- rank r may try the event of an instruction at a stage
-abbrev pub CanTryAt : Programs → Facts → ℕ → Instr → ℕ → Type 0
-CanTryAt p f r i stage = CanTry f r (row_at p f.tables r i stage)
+-- none of them is refused but one that is alone, and none but the first needs that the exponent can grow
+abbrev pub are_sure : Few Act → Bool
+are_sure Empty = true
+are_sure (One a) = true
+are_sure (Two a b) = is_sure a && is_quiet b
+are_sure (Three a b c) = is_sure a && (is_quiet b && is_quiet c)
 
--- no test failed, and rank r has done the acts
-pub record WasDone (f : Facts) (r : ℕ) (checks : List Check) (acts : List Act) (g : Facts) : Type 0 where
-  pub passes : Passes f checks
-  pub did : Did f r acts g
+-- the exponent can grow where the act needs it
+abbrev pub MayGrowBy : Act → Store → Type 0
+MayGrowBy a s = is_quiet a ≡ false → MayGrow s
 
--- the first test that failed has this cause, and nothing has changed
-pub record WasRefused (f : Facts) (checks : List Check) (cause : Cause) (g : Facts) : Type 0 where
-  pub stops : Stops f checks cause
+-- the only act is a `Had` that leaves the range
+abbrev pub AllOverflow : List Act → Store → Type 0
+AllOverflow (Apply l ∷ []) s = Overflows l s
+AllOverflow _ s = ⊥
+
+-- a line that can be tried: its tests are those that are asked and then those that its acts tell
+pub record IsTriable (w : Row) : Type 0 where
+  pub checks : list_of w.checks ≡ asked (list_of w.checks) ++ told_by (list_of w.acts)
+  pub sure : are_sure w.acts ≡ true
+
+-- rank r may do the acts of the line and make its tests, and the exponent can grow
+pub record CanTry (f : Facts) (r : ℕ) (w : Row) : Type 0 where
+  pub acts : Can f r (list_of w.acts)
+  pub checks : AllMayCheck f.tables (list_of w.checks)
+  pub triable : IsTriable w
+  pub grow : MayGrow f.store
+
+-- no test of the line failed, and rank r has done its acts
+pub record WasDone (f : Facts) (r : ℕ) (w : Row) (g : Facts) : Type 0 where
+  pub passes : Passes f (list_of w.checks)
+  pub did : Did f r (list_of w.acts) g
+
+-- the first test of the line that failed has this cause, and nothing has changed
+pub record WasRefused (f : Facts) (w : Row) (cause : Cause) (g : Facts) : Type 0 where
+  pub stops : Stops f (list_of w.checks) cause
   pub same : g ≡ f
 
--- rank r has tried the acts after their tests: on Ok they were done, on Err refused for its cause
-abbrev pub Tried : {T : Type 0} → Facts → ℕ → List Check → List Act → Result T Cause → Facts → Type 0
-Tried f r checks acts answer g = MatchResult answer (λ _. WasDone f r checks acts g) (λ cause. WasRefused f checks cause g)
-
--- rank r has tried the event of an instruction at a stage
-abbrev pub TriedAt : {T : Type 0} → Programs → Facts → ℕ → Instr → ℕ → Result T Cause → Facts → Type 0
-TriedAt p f r i stage answer g = let row = row_at p f.tables r i stage in Tried f r (row_checks row) (acts_of row) answer g
-
--- whichever rank is enabled, its event may be tried
-abbrev pub CanTryAll : Programs → Facts → Type 0
-CanTryAll p f = (r : ℕ) → r < length p.ranks → enabled p f.tables r ≡ true → CanTry f r (row_next p f.tables r)
+-- rank r has tried the line: on Ok its acts were done, on Err refused for its cause
+abbrev pub Tried : {T : Type 0} → Facts → ℕ → Row → Result T Cause → Facts → Type 0
+Tried f r w answer g = MatchResult answer (λ _. WasDone f r w g) (λ cause. WasRefused f w cause g)
 
 -- what the next event of rank r leaves
 pub record Advanced (p : Programs) (f : Facts) (r : ℕ) (g : Facts) : Type 0 where
@@ -88,3 +117,25 @@ IsRuleKnown n Always = Unit {0}
 IsRuleKnown n (PairRoom a) = a.to < n
 IsRuleKnown n (Engaged a) = a.to < n
 IsRuleKnown n (Filled a) = Unit {0}
+
+-- ---- what is read of programs and a body
+-- r is one of the programs' ranks, of which the body has as many
+pub record IsRank (p : Programs) (f : Facts) (r : ℕ) : Type 0 where
+  pub known : r < length p.ranks
+  pub same : f.ranks ≡ length p.ranks
+
+-- the programs are ready, and the body has as many ranks
+pub record AreRanks (p : Programs) (f : Facts) : Type 0 where
+  pub ready : IsReady p
+  pub same : f.ranks ≡ length p.ranks
+
+-- r is one of the ranks of ready programs, of which the body has as many
+pub record IsReadyRank (p : Programs) (f : Facts) (r : ℕ) : Type 0 where
+  pub ready : IsReady p
+  pub known : r < length p.ranks
+  pub same : f.ranks ≡ length p.ranks
+
+-- the rank that a rule asks about is one of the programs', of which the body has as many
+pub record IsRuleRead (p : Programs) (f : Facts) (rule : Rule) : Type 0 where
+  pub known : IsRuleKnown (length p.ranks) rule
+  pub same : f.ranks ≡ length p.ranks

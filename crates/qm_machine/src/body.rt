@@ -1,20 +1,28 @@
 //! The body of a machine: its ranks, its mail and its store, and one method for each act.
-ghost use Rattle.std.specs.Prelude.{◌≡◌, ◌<◌, ◌+◌, ◌^◌, ◌↔◌, true, [], ◌∷◌, ◌++◌, length, OnOk, OnErr, IsErr, IfOk, nat_eq};
+ghost use Rattle.std.specs.Prelude.{◌≡◌, ℕ, ◌<◌, ◌+◌, ◌^◌, ◌↔◌, true, [], ◌∷◌, ◌++◌, length, OnOk, OnErr, IsErr, IfOk, nat_eq};
 ghost use Rattle.qm_denot.specs.Circuits.{Circuit};
+ghost use Rattle.qm_denot.specs.Parcels.{IsFillable};
 ghost use Rattle.qm_denot.specs.Stores.{StandsFor, Overflows, MayGrow, MayApply, live_after};
 ghost use Rattle.qm_instr.specs.Programs.{IsInRange};
-ghost use Rattle.qm_proto.specs.Model.State.{far_made, near_last, protocol_next, front};
-ghost use Rattle.qm_proto.specs.Model.Acts.{Fresh, Twin, Apply, NearOut, Settle, Posts, Fills, Receives, ProtocolUsed};
+ghost use Rattle.qm_proto.specs.Model.State.{far_made, near_last, bit_of, own_next, protocol_next, front};
+ghost use Rattle.qm_proto.specs.declared.Act.TheVariants.{Fresh, Twin, Apply, SlotOut, NearOut, FarOut, Settle, Posts, Fills, Receives, OwnUsed, ProtocolUsed, FirstKept, BitSet};
 ghost use Rattle.qm_proto.specs.Model.Runs.{halves};
-ghost use Rattle.qm_machine.specs.Facts.{Can, Did, moved, is_pauli, IsAtStart};
+ghost use Rattle.qm_machine.specs.Facts.{moved, is_pauli, IsAtStart};
+ghost use Rattle.qm_machine.specs.Tries.{MayGrowBy, AllOverflow};
 
-use crate::mail::Mail;
 use crate::rank::Rank;
 use qm_check::Ready;
 use qm_denot::{Amps, Letter, Overflow, Wire};
 use qm_instr::Lane;
-use qm_proto::Parcel;
+use qm_mail::Mail;
+use qm_proto::{Act, Parcel};
 use std::alloc::{AllocError, Global};
+
+/// What stands for the front of an empty lane.
+const NO_PARCEL: Parcel = Parcel {
+    wire: None,
+    bits: None,
+};
 
 /// Ranks, mail and store.
 #[derive(Drop)]
@@ -34,7 +42,7 @@ fn is_pauli(letter: Letter) -> bool
 }
 
 impl<A: Amps> Body<A> {
-    ghost use Rattle.qm_machine.specs.Views.{facts, view_of, rank_view, number_of_bits};
+    ghost use Rattle.qm_machine.specs.Views.{facts, MayAct, Acted, view_of, rank_view, number_of_bits};
 
     /// The body of ready programs before their first event. All its memory is taken here; `AllocError` comes from the allocator alone.
     pub(crate) fn start(alloc: Global, ready: &Ready, amps: A) -> Result<Body<A>, AllocError>
@@ -113,6 +121,38 @@ impl<A: Amps> Body<A> {
         self.rank(rank).taken()
     }
 
+    /// The first outcome of a move that a rank is doing.
+    pub(crate) fn first(&self, rank: u16) -> bool
+        requires { rank < (facts A.store self.now).ranks }
+        ensures { result ≡ ((facts A.store self.now).tables.parts rank).first }
+    {
+        self.rank(rank).first()
+    }
+
+    /// A bit of a rank; false where there is none.
+    pub(crate) fn bit(&self, rank: u16, b: u8) -> bool
+        requires { rank < (facts A.store self.now).ranks }
+        ensures { result ≡ bit_of (facts A.store self.now).tables rank b }
+    {
+        self.rank(rank).bit(b)
+    }
+
+    /// The next outcome of a rank's own tape; false where none is left.
+    pub(crate) fn own_next(&self, rank: u16) -> bool
+        requires { rank < (facts A.store self.now).ranks }
+        ensures { result ≡ own_next (facts A.store self.now).tables rank }
+    {
+        self.rank(rank).own_next()
+    }
+
+    /// The next outcome of a rank's protocol tape; false where none is left.
+    pub(crate) fn protocol_next(&self, rank: u16) -> bool
+        requires { rank < (facts A.store self.now).ranks }
+        ensures { result ≡ protocol_next (facts A.store self.now).tables rank }
+    {
+        self.rank(rank).protocol_next()
+    }
+
     /// The wire that a rank's count names: a qubit or a far half.
     pub(crate) fn far_made(&self, rank: u16) -> Wire
         requires { rank < (facts A.store self.now).ranks }
@@ -174,14 +214,17 @@ impl<A: Amps> Body<A> {
     pub(crate) fn front(&self, lane: Lane) -> Parcel
         ensures { result ≡ front (facts A.store self.now).tables lane }
     {
-        self.mail.front(lane)
+        match self.mail.front(lane) {
+            Some(parcel) => parcel,
+            None => NO_PARCEL,
+        }
     }
 
     /// Puts a fresh wire into a rank's slot.
-    pub(crate) fn fresh(&mut self, rank: u16, q: u8)
+    fn fresh(&mut self, rank: u16, q: u8)
         requires able { A.able }
-        requires can { Can (facts A.store self.old) rank (Fresh q ∷ []) }
-        ensures { Did (facts A.store self.old) rank (Fresh q ∷ []) (facts A.store self.new) }
+        requires can { MayAct A.store self.old rank (Fresh q) }
+        ensures { Acted A.store self.old rank (Fresh q) self.new }
     {
         let w = self.far_made(rank);
         self.amps.fresh(w);
@@ -189,26 +232,26 @@ impl<A: Amps> Body<A> {
     }
 
     /// Prepares an EPR pair: the near half at a rank, the far half at another.
-    pub(crate) fn twin(&mut self, rank: u16, to: u16)
+    fn twin(&mut self, rank: u16, to: u16)
         requires able { A.able }
-        requires can { Can (facts A.store self.old) rank (Twin to ∷ []) }
+        requires can { MayAct A.store self.old rank (Twin to) }
         requires grow { MayGrow (facts A.store self.old).store }
-        ensures { Did (facts A.store self.old) rank (Twin to ∷ []) (facts A.store self.new) }
+        ensures { Acted A.store self.old rank (Twin to) self.new }
     {
         let f = self.far_made(rank);
         let e = Wire { near: true, ..f };
         do_letter(&mut self.amps, Letter::Pair { a: e, b: f });
-        self.ranks[usize::from(rank)].keep_near(e);
         self.ranks[usize::from(to)].keep_far(f);
+        self.ranks[usize::from(rank)].keep_near(e);
         self.letters += 1;
     }
 
     /// Does a letter that moves no wire. `Overflow` comes exactly where a `Had` leaves the range; nothing is changed then.
-    pub(crate) fn letter(&mut self, rank: u16, letter: Letter) -> Result<(), Overflow>
+    fn letter(&mut self, rank: u16, letter: Letter) -> Result<(), Overflow>
         requires able { A.able }
-        requires can { Can (facts A.store self.old) rank (Apply letter ∷ []) }
-        requires grow { MayGrow (facts A.store self.old).store }
-        ensures ok { OnOk result (Did (facts A.store self.old) rank (Apply letter ∷ []) (facts A.store self.new)) }
+        requires can { MayAct A.store self.old rank (Apply letter) }
+        requires grow { MayGrowBy (Apply letter) (facts A.store self.old).store }
+        ensures ok { OnOk result (Acted A.store self.old rank (Apply letter) self.new) }
         ensures overflow { IsErr result ↔ Overflows letter (facts A.store self.old).store }
         ensures err { OnErr result (facts A.store self.new ≡ facts A.store self.old) }
     {
@@ -223,57 +266,132 @@ impl<A: Amps> Body<A> {
     }
 
     /// Measures the near half that a rank made last away, with this outcome.
-    pub(crate) fn near_out(&mut self, rank: u16, m: bool)
+    fn near_out(&mut self, rank: u16, m: bool)
         requires able { A.able }
-        requires can { Can (facts A.store self.old) rank (NearOut m ∷ []) }
-        ensures { Did (facts A.store self.old) rank (NearOut m ∷ []) (facts A.store self.new) }
+        requires can { MayAct A.store self.old rank (NearOut m) }
+        ensures { Acted A.store self.old rank (NearOut m) self.new }
     {
         let w = self.near_last(rank);
         do_letter(&mut self.amps, Letter::Take { w, m });
-        self.ranks[usize::from(rank)].drop_near(w);
+        self.ranks[usize::from(rank)].drop_near();
+        self.letters += 1;
+    }
+
+    /// Measures the wire in a rank's slot away, with this outcome.
+    fn slot_out(&mut self, rank: u16, q: u8, m: bool)
+        requires able { A.able }
+        requires can { MayAct A.store self.old rank (SlotOut q m) }
+        ensures { Acted A.store self.old rank (SlotOut q m) self.new }
+    {
+        if let Some(w) = self.slot(rank, q) {
+            do_letter(&mut self.amps, Letter::Take { w, m });
+            self.ranks[usize::from(rank)].empty_slot(q);
+            self.letters += 1;
+        }
+    }
+
+    /// Measures a rank's far half away, with this outcome.
+    fn far_out(&mut self, rank: u16, f: Wire, m: bool)
+        requires able { A.able }
+        requires can { MayAct A.store self.old rank (FarOut f m) }
+        ensures { Acted A.store self.old rank (FarOut f m) self.new }
+    {
+        do_letter(&mut self.amps, Letter::Take { w: f, m });
+        self.ranks[usize::from(rank)].drop_far(f);
         self.letters += 1;
     }
 
     /// Puts a rank's far half into its slot; it is no half any more.
-    pub(crate) fn settle(&mut self, rank: u16, f: Wire, q: u8)
-        requires { Can (facts A.store self.old) rank (Settle f q ∷ []) }
-        ensures { Did (facts A.store self.old) rank (Settle f q ∷ []) (facts A.store self.new) }
+    fn settle(&mut self, rank: u16, f: Wire, q: u8)
+        requires { MayAct A.store self.old rank (Settle f q) }
+        ensures { Acted A.store self.old rank (Settle f q) self.new }
     {
         self.ranks[usize::from(rank)].settle(f, q);
     }
 
     /// Puts a parcel at a lane's end.
-    pub(crate) fn post(&mut self, _rank: u16, lane: Lane, parcel: Parcel)
-        requires { Can (facts A.store self.old) _rank (Posts lane parcel ∷ []) }
-        ensures { Did (facts A.store self.old) _rank (Posts lane parcel ∷ []) (facts A.store self.new) }
+    fn post(&mut self, lane: Lane, parcel: Parcel)
+        requires { let f = facts A.store self.old in length (f.tables.lanes lane) < f.parcels lane }
+        ensures { let a = Posts lane parcel in (r : ℕ) → MayAct A.store self.old r a → Acted A.store self.old r a self.new }
     {
         self.mail.post(lane, parcel);
     }
 
     /// Gives a lane's last parcel its bits.
-    pub(crate) fn fill(&mut self, _rank: u16, lane: Lane, bits: (bool, bool))
-        requires { Can (facts A.store self.old) _rank (Fills lane bits ∷ []) }
-        ensures { Did (facts A.store self.old) _rank (Fills lane bits ∷ []) (facts A.store self.new) }
+    fn fill(&mut self, lane: Lane, bits: (bool, bool))
+        requires { IsFillable ((facts A.store self.old).tables.lanes lane) }
+        ensures { let a = Fills lane bits in (r : ℕ) → MayAct A.store self.old r a → Acted A.store self.old r a self.new }
     {
         self.mail.fill(lane, bits);
     }
 
     /// Takes a lane's front parcel, which the rank keeps.
-    pub(crate) fn receive(&mut self, rank: u16, lane: Lane)
-        requires { Can (facts A.store self.old) rank (Receives lane ∷ []) }
-        ensures { Did (facts A.store self.old) rank (Receives lane ∷ []) (facts A.store self.new) }
+    fn receive(&mut self, rank: u16, lane: Lane)
+        requires { MayAct A.store self.old rank (Receives lane) }
+        ensures { Acted A.store self.old rank (Receives lane) self.new }
     {
         let parcel = self.mail.take(lane);
         self.ranks[usize::from(rank)].receive(parcel);
     }
 
     /// Uses the next outcome of a rank's protocol tape.
-    pub(crate) fn use_protocol(&mut self, rank: u16) -> bool
-        requires { Can (facts A.store self.old) rank (ProtocolUsed ∷ []) }
-        ensures value { result ≡ protocol_next (facts A.store self.old).tables rank }
-        ensures did { Did (facts A.store self.old) rank (ProtocolUsed ∷ []) (facts A.store self.new) }
+    fn use_protocol(&mut self, rank: u16)
+        requires { MayAct A.store self.old rank ProtocolUsed }
+        ensures { Acted A.store self.old rank ProtocolUsed self.new }
     {
-        self.ranks[usize::from(rank)].use_protocol()
+        self.ranks[usize::from(rank)].use_protocol();
+    }
+
+    /// Uses the next outcome of a rank's own tape.
+    fn use_own(&mut self, rank: u16)
+        requires { MayAct A.store self.old rank OwnUsed }
+        ensures { Acted A.store self.old rank OwnUsed self.new }
+    {
+        self.ranks[usize::from(rank)].use_own();
+    }
+
+    /// Keeps the first outcome of a rank's move.
+    fn keep_first(&mut self, rank: u16, m: bool)
+        requires { MayAct A.store self.old rank (FirstKept m) }
+        ensures { Acted A.store self.old rank (FirstKept m) self.new }
+    {
+        self.ranks[usize::from(rank)].keep_first(m);
+    }
+
+    /// Sets a rank's bit.
+    fn set_bit(&mut self, rank: u16, b: u8, v: bool)
+        requires { MayAct A.store self.old rank (BitSet b v) }
+        ensures { Acted A.store self.old rank (BitSet b v) self.new }
+    {
+        self.ranks[usize::from(rank)].set_bit(b, v);
+    }
+
+    /// Does an act. `Overflow` comes exactly where it is a `Had` that leaves the range; nothing is changed then.
+    pub(crate) fn act(&mut self, rank: u16, act: Act) -> Result<(), Overflow>
+        requires able { A.able }
+        requires can { MayAct A.store self.old rank act }
+        requires grow { MayGrowBy act (facts A.store self.old).store }
+        ensures ok { OnOk result (Acted A.store self.old rank act self.new) }
+        ensures overflow { IsErr result ↔ AllOverflow (act ∷ []) (facts A.store self.old).store }
+        ensures err { OnErr result (facts A.store self.new ≡ facts A.store self.old) }
+    {
+        match act {
+            Act::Apply { letter } => return self.letter(rank, letter),
+            Act::Fresh { q } => self.fresh(rank, q),
+            Act::Twin { to } => self.twin(rank, to),
+            Act::SlotOut { q, m } => self.slot_out(rank, q, m),
+            Act::NearOut { m } => self.near_out(rank, m),
+            Act::FarOut { f, m } => self.far_out(rank, f, m),
+            Act::Settle { f, q } => self.settle(rank, f, q),
+            Act::Posts { lane, parcel } => self.post(lane, parcel),
+            Act::Fills { lane, bits } => self.fill(lane, bits),
+            Act::Receives { lane } => self.receive(rank, lane),
+            Act::OwnUsed => self.use_own(rank),
+            Act::ProtocolUsed => self.use_protocol(rank),
+            Act::FirstKept { m } => self.keep_first(rank, m),
+            Act::BitSet { b, v } => self.set_bit(rank, b, v),
+        }
+        Ok(())
     }
 
     /// A rank goes on to the next event of its instruction, which has so many.

@@ -4,19 +4,22 @@
 //! that schedule.
 #![tactic(auto)]
 
+mod attempt;
 mod body;
-mod events;
+mod lines;
 mod machine;
-mod mail;
-mod perform;
+mod messages;
 mod rank;
+mod rows;
 mod rules;
-mod tape;
-mod turn;
 
 pub use machine::Machine;
 pub use qm_proto::Cause;
 
+#[cfg(test)]
+mod runs;
+#[cfg(test)]
+mod stuck;
 #[cfg(test)]
 mod tests;
 

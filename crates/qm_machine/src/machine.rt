@@ -5,18 +5,18 @@ ghost use Rattle.qm_instr.specs.Programs.{rank_of};
 ghost use Rattle.qm_check.specs.Checks.{capacity_of};
 ghost use Rattle.qm_proto.specs.Model.Runs.{halves};
 ghost use Rattle.qm_proto.specs.Model.Schedules.{AllEnded};
-ghost use Rattle.qm_machine.specs.Built.{IsBuilt};
 ghost use Rattle.qm_machine.specs.Facts.{is_pauli};
-ghost use Rattle.qm_machine.specs.Keeps.{Keeps, StepIs, StateIs, HaltsAt, HasLeft, halt_of, state_of};
+ghost use Rattle.qm_machine.specs.Keeps.{Keeps, StepIs, StateIs, HaltsAt, HasLeft, MayGo, MustWait, halt_of, state_of};
 ghost use Rattle.qm_machine.specs.Views.{number_of_bits};
 
+use crate::attempt::attempt;
 use crate::body::Body;
-use crate::rules::has_left;
-use crate::turn::{Turn, take_turn};
-use crate::{Halt, State, Step};
+use crate::rows::row_next;
+use crate::rules::{any_enabled, events_here, has_left, lacks, lowest_left};
+use crate::{Halt, State, Step, Why};
 use qm_check::Ready;
 use qm_denot::{Amps, Wire};
-use qm_proto::Cause;
+use qm_proto::{Cause, Row};
 use std::alloc::{AllocError, Global};
 use std::marker::Model;
 
@@ -47,11 +47,9 @@ impl<A: Amps> Model for Machine<A> {
 impl<A: Amps> Machine<A> {
     /// A machine before its first event, over a store that stands for the empty circuit.
     ///
-    /// The programs have no instruction but those that are built: a new qubit, the gates, and both sides of a copy. The store has no live
-    /// wire, and room for as many as the programs' slots and buffers. All memory is taken here; `AllocError` comes from the allocator
-    /// alone.
+    /// The store has no live wire, and room for as many as the programs' slots and buffers. All memory is taken here; `AllocError` comes
+    /// from the allocator alone.
     pub fn start(alloc: Global, ready: Ready, amps: A) -> Result<Machine<A>, AllocError>
-        requires built { IsBuilt ready }
         requires stands { StandsFor (A.store amps) [] }
         requires live { (A.store amps).live ≡ [] }
         requires room { capacity_of ready ≤ (A.store amps).capacity }
@@ -68,17 +66,49 @@ impl<A: Amps> Machine<A> {
     }
 
     /// Keeps a halt of this rank at the schedule's end.
-    fn halt(&mut self, rank: u32, cause: Cause) -> Step
+    fn halt(&mut self, rank: u16, cause: Cause) -> Step
         requires { HaltsAt self.old.programs self.old.schedule (halt_of rank self.old.schedule cause) }
         ensures answer { result ≡ Step.Halted }
         ensures new { self.new ≡ record self.old { halted = Some (halt_of rank self.old.schedule cause) } }
     {
         self.halted = Some(Halt {
-            rank,
+            rank: u32::from(rank),
             turns: self.schedule.len() as u64,
             cause,
         });
         Step::Halted
+    }
+
+    /// The answer where a rank's next event isn't enabled.
+    fn wait(&mut self, rank: u16, why: Why) -> Step
+        requires { MustWait self.old rank why }
+        ensures programs { self.new.programs ≡ self.old.programs }
+        ensures step { StepIs A.store self.old rank result self.new }
+    {
+        let input = self.ready.input();
+        if any_enabled(input, &self.body) {
+            return Step::Blocked { why };
+        }
+        let lowest = lowest_left(input, &self.body, rank);
+        self.halt(lowest, Cause::Stuck)
+    }
+
+    /// Tries a rank's enabled event, and goes on to the next one where it was done.
+    fn go(&mut self, rank: u16, row: Row) -> Step
+        requires able { A.able }
+        requires go { MayGo self.old rank row }
+        ensures programs { self.new.programs ≡ self.old.programs }
+        ensures step { StepIs A.store self.old rank result self.new }
+    {
+        let events = events_here(self.ready.input(), &self.body, rank);
+        match attempt(&mut self.body, rank, row) {
+            Ok(()) => {
+                self.body.move_on(rank, events);
+                self.schedule.push_reserved(u32::from(rank));
+                Step::Did { event: row.event }
+            }
+            Err(cause) => self.halt(rank, cause),
+        }
     }
 
     /// One event of a rank, if it may happen.
@@ -96,15 +126,13 @@ impl<A: Amps> Machine<A> {
         if self.halted.is_some() {
             return Step::Halted;
         }
-        match take_turn(self.ready.input(), &mut self.body, rank as u16) {
-            Turn::Ended => Step::Ended,
-            Turn::Blocked { why } => Step::Blocked { why },
-            Turn::Stuck { lowest } => self.halt(u32::from(lowest), Cause::Stuck),
-            Turn::Refused { cause } => self.halt(rank, cause),
-            Turn::Did { event } => {
-                self.schedule.push_reserved(rank);
-                Step::Did { event }
-            }
+        let input = self.ready.input();
+        match row_next(input, &self.body, rank as u16) {
+            None => Step::Ended,
+            Some(row) => match lacks(input, &self.body, row.rule) {
+                None => self.go(rank as u16, row),
+                Some(why) => self.wait(rank as u16, why),
+            },
         }
     }
 
@@ -164,12 +192,15 @@ impl<A: Amps> Machine<A> {
         self.body.bits(rank as u16)
     }
 
-    /// The wire in a rank's slot. `None` exactly where it is empty.
+    /// The wire in a rank's slot. `None` exactly where it is empty, as each slot of a rank is that there isn't.
     pub fn slot(&self, rank: u32, q: u8) -> Option<Wire>
-        requires { rank < length self.now.programs.ranks }
         ensures { result ≡ (state_of self.now).tables.slots rank q }
     {
-        self.body.slot(rank as u16, q)
+        if rank < u32::from(self.ready.input().ranks()) {
+            self.body.slot(rank as u16, q)
+        } else {
+            None
+        }
     }
 
     /// How many halves a rank holds, at most the size of its buffer.

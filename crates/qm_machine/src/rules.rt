@@ -1,97 +1,36 @@
-//! Which rank has an event left, and which is enabled.
-ghost use Rattle.std.specs.Prelude.{◌≡◌, ◌<◌, ℕ, true, false, length, Some};
-ghost use Rattle.qm_instr.specs.Lanes.{lane};
-ghost use Rattle.qm_instr.specs.Programs.{Programs};
-ghost use Rattle.qm_check.specs.Checks.{IsReady};
-ghost use Rattle.qm_proto.specs.Model.State.{Tables};
+//! Which rank has an event left, which is enabled, and what one lacks that isn't.
+ghost use Rattle.std.specs.Prelude.{◌≡◌, ◌<◌, ◌+◌, nat_lt, true, false, Some, None};
+ghost use Rattle.qm_instr.specs.Programs.{rank_of};
 ghost use Rattle.qm_proto.specs.Model.Rows.{current};
-ghost use Rattle.qm_proto.specs.Model.Runs.{holds, is_wanted, receives_on, enabled, has_event};
-ghost use Rattle.qm_proto.specs.Model.Schedules.{IsLowestLeft};
-ghost use Rattle.qm_machine.specs.Tries.{row_at, rule_of, IsRuleKnown};
+ghost use Rattle.qm_proto.specs.Model.Runs.{holds, halves, is_wanted, receives_on, enabled, has_event, events_at};
+ghost use Rattle.qm_proto.specs.Model.Schedules.{IsLowestLeft, NoneEnabled};
+ghost use Rattle.qm_machine.specs.Keeps.{lacking};
+ghost use Rattle.qm_machine.specs.Tries.{IsRank, IsReadyRank, AreRanks, IsRuleRead};
 ghost use Rattle.qm_machine.specs.Views.{facts};
 
+use crate::Why;
 use crate::body::Body;
+use crate::rows::row_next;
 use qm_denot::Amps;
-use qm_instr::{Input, Instr, Kind, Lane, event_count, receive_lane};
+use qm_instr::{Input, Instr, Lane, event_count, receive_lane};
 use qm_proto::Rule;
 
 /// The instruction at which a rank stands.
 pub(crate) fn current<A: Amps>(input: &Input, body: &Body<A>, rank: u16) -> Option<Instr>
-    requires known { rank < length input.now.ranks }
-    requires same { (facts A.store body.now).ranks ≡ length input.now.ranks }
+    requires { IsRank input.now (facts A.store body.now) rank }
     ensures { result ≡ current input.now (facts A.store body.now).tables rank }
 {
     input.instr(rank, body.at(rank))
 }
 
-/// What the first event of an instruction of a rank waits for.
-fn first_rule(rank: u16, instr: Instr) -> Rule
-    ensures { (p : Programs) (t : Tables) → rule_of (row_at p t rank instr 0) ≡ result }
+/// How many events the instruction has at which a rank stands.
+pub(crate) fn events_here<A: Amps>(input: &Input, body: &Body<A>, rank: u16) -> u32
+    requires { IsRank input.now (facts A.store body.now) rank }
+    ensures { result ≡ events_at (current input.now (facts A.store body.now).tables rank) }
 {
-    match instr {
-        Instr::CopyTo { to, tag, .. } => pair_room(rank, to, Kind::Copy, tag),
-        Instr::MoveTo { to, tag, .. } => pair_room(rank, to, Kind::Move, tag),
-        Instr::ReachTo { to, tag, .. } => pair_room(rank, to, Kind::Reach, tag),
-        Instr::RecvBit { from, tag, .. } => filled(from, rank, Kind::Bit, tag),
-        Instr::CopyFrom { from, tag, .. } => filled(from, rank, Kind::Copy, tag),
-        Instr::MoveFrom { from, tag, .. } => filled(from, rank, Kind::Move, tag),
-        Instr::UndoFrom { from, tag, .. } => filled(from, rank, Kind::Undo, tag),
-        Instr::ReachFrom { from, tag, .. } => filled(from, rank, Kind::Reach, tag),
-        Instr::UndoTo { to, tag, .. } => Rule::Engaged {
-            lane: Lane {
-                from: rank,
-                to,
-                kind: Kind::Undo,
-                tag,
-            },
-        },
-        Instr::Alloc { .. }
-        | Instr::Free { .. }
-        | Instr::Do { .. }
-        | Instr::Measure { .. }
-        | Instr::Set { .. }
-        | Instr::Xor { .. }
-        | Instr::When { .. }
-        | Instr::SendBit { .. } => Rule::Always,
-    }
-}
-
-/// Room at the receiver of a lane.
-fn pair_room(from: u16, to: u16, kind: Kind, tag: u16) -> Rule
-    ensures { result ≡ Rule.PairRoom (lane from to kind tag) }
-{
-    Rule::PairRoom {
-        lane: Lane {
-            from,
-            to,
-            kind,
-            tag,
-        },
-    }
-}
-
-/// Bits at the front of a lane.
-fn filled(from: u16, to: u16, kind: Kind, tag: u16) -> Rule
-    ensures { result ≡ Rule.Filled (lane from to kind tag) }
-{
-    Rule::Filled {
-        lane: Lane {
-            from,
-            to,
-            kind,
-            tag,
-        },
-    }
-}
-
-/// What the event of an instruction of a rank at a stage waits for.
-pub(crate) fn rule_at(rank: u16, instr: Instr, stage: u32) -> Rule
-    ensures { (p : Programs) (t : Tables) → rule_of (row_at p t rank instr stage) ≡ result }
-{
-    match (stage, instr) {
-        (0, _) => first_rule(rank, instr),
-        (3, Instr::ReachTo { to, tag, .. }) => filled(to, rank, Kind::Back, tag),
-        _ => Rule::Always,
+    match current(input, body, rank) {
+        Some(instr) => event_count(instr),
+        None => 0,
     }
 }
 
@@ -104,8 +43,7 @@ fn receives(rank: u16, instr: Instr, lane: Lane) -> bool
 
 /// Whether the lane's receiver stands at the first event of a receive of it, and it is empty.
 fn is_wanted<A: Amps>(input: &Input, body: &Body<A>, lane: Lane) -> bool
-    requires known { lane.to < length input.now.ranks }
-    requires same { (facts A.store body.now).ranks ≡ length input.now.ranks }
+    requires { IsRank input.now (facts A.store body.now) lane.to }
     ensures { result ≡ is_wanted input.now (facts A.store body.now).tables lane }
 {
     if body.stage(lane.to) != 0 {
@@ -117,57 +55,63 @@ fn is_wanted<A: Amps>(input: &Input, body: &Body<A>, lane: Lane) -> bool
     }
 }
 
-/// Whether what a rule asks for is so.
-pub(crate) fn rule_holds<A: Amps>(input: &Input, body: &Body<A>, rule: Rule) -> bool
-    requires known { IsRuleKnown (length input.now.ranks) rule }
-    requires same { (facts A.store body.now).ranks ≡ length input.now.ranks }
-    ensures { result ≡ holds input.now (facts A.store body.now).tables rule }
+/// Nothing where it holds, else what is lacking.
+pub(crate) fn unless<T: Drop>(holds: bool, lacking: T) -> Option<T>
+    ensures yes { holds ≡ true → result ≡ None }
+    ensures no { holds ≡ false → result ≡ Some lacking }
+{
+    if holds { None } else { Some(lacking) }
+}
+
+/// Whether a rank's buffer has room for one more half beside the place that is kept for a half that it wants.
+fn has_room<A: Amps>(input: &Input, body: &Body<A>, rank: u16) -> bool
+    requires { IsRank input.now (facts A.store body.now) rank }
+    ensures { result ≡ nat_lt (halves (facts A.store body.now).tables rank + 1) (rank_of input.now rank).buffer }
+{
+    body.halves(rank).saturating_add(1) < usize::from(input.buffer(rank))
+}
+
+/// What a rank lacks whose next event has this rule. `None` exactly where the rule holds.
+pub(crate) fn lacks<A: Amps>(input: &Input, body: &Body<A>, rule: Rule) -> Option<Why>
+    requires { IsRuleRead input.now (facts A.store body.now) rule }
+    ensures holds { result ≡ None → holds input.now (facts A.store body.now).tables rule ≡ true }
+    ensures lacks { (w : Why) → result ≡ Some w → (holds input.now (facts A.store body.now).tables rule ≡ false) × (lacking rule ≡ Some w) }
 {
     match rule {
-        Rule::Always => true,
-        Rule::PairRoom { lane } => {
-            body.halves(lane.to).saturating_add(1) < usize::from(input.buffer(lane.to))
-                || is_wanted(input, body, lane)
-        }
-        Rule::Engaged { lane } => is_wanted(input, body, lane),
-        Rule::Filled { lane } => body.front(lane).bits.is_some(),
+        Rule::Always => None,
+        Rule::PairRoom { lane } => unless(
+            has_room(input, body, lane.to) || is_wanted(input, body, lane),
+            Why::NoRoom,
+        ),
+        Rule::Engaged { lane } => unless(is_wanted(input, body, lane), Why::PartnerElsewhere),
+        Rule::Filled { lane } => unless(body.front(lane).bits.is_some(), Why::LaneEmpty),
     }
 }
 
 /// Whether a rank has an event left.
 pub(crate) fn has_left<A: Amps>(input: &Input, body: &Body<A>, rank: u16) -> bool
-    requires known { rank < length input.now.ranks }
-    requires same { (facts A.store body.now).ranks ≡ length input.now.ranks }
+    requires { IsReadyRank input.now (facts A.store body.now) rank }
     ensures { result ≡ has_event input.now (facts A.store body.now).tables rank }
 {
-    match current(input, body, rank) {
-        Some(instr) => body.stage(rank) < event_count(instr),
-        None => false,
-    }
+    row_next(input, body, rank).is_some()
 }
 
 /// Whether a rank is enabled.
-pub(crate) fn is_enabled<A: Amps>(input: &Input, body: &Body<A>, rank: u16) -> bool
-    requires ready { IsReady input.now }
-    requires known { rank < length input.now.ranks }
-    requires same { (facts A.store body.now).ranks ≡ length input.now.ranks }
+fn is_enabled<A: Amps>(input: &Input, body: &Body<A>, rank: u16) -> bool
+    requires { IsReadyRank input.now (facts A.store body.now) rank }
     ensures { result ≡ enabled input.now (facts A.store body.now).tables rank }
 {
-    match current(input, body, rank) {
-        Some(instr) => {
-            let stage = body.stage(rank);
-            stage < event_count(instr) && rule_holds(input, body, rule_at(rank, instr, stage))
-        }
+    match row_next(input, body, rank) {
+        Some(row) => lacks(input, body, row.rule).is_none(),
         None => false,
     }
 }
 
 /// Whether some rank is enabled.
 pub(crate) fn any_enabled<A: Amps>(input: &Input, body: &Body<A>) -> bool
-    requires ready { IsReady input.now }
-    requires same { (facts A.store body.now).ranks ≡ length input.now.ranks }
-    ensures some { result ≡ true → (r : ℕ) × (r < length input.now.ranks) × (enabled input.now (facts A.store body.now).tables r ≡ true) }
-    ensures none { result ≡ false → (r : ℕ) → r < length input.now.ranks → enabled input.now (facts A.store body.now).tables r ≡ false }
+    requires { AreRanks input.now (facts A.store body.now) }
+    ensures some { result ≡ true → ¬ (NoneEnabled input.now (facts A.store body.now).tables) }
+    ensures none { result ≡ false → NoneEnabled input.now (facts A.store body.now).tables }
 {
     for rank in 0..input.ranks() {
         if is_enabled(input, body, rank) {
@@ -179,9 +123,8 @@ pub(crate) fn any_enabled<A: Amps>(input: &Input, body: &Body<A>) -> bool
 
 /// The lowest rank that has an event left, where this one has.
 pub(crate) fn lowest_left<A: Amps>(input: &Input, body: &Body<A>, rank: u16) -> u16
-    requires known { rank < length input.now.ranks }
+    requires here { IsReadyRank input.now (facts A.store body.now) rank }
     requires left { has_event input.now (facts A.store body.now).tables rank ≡ true }
-    requires same { (facts A.store body.now).ranks ≡ length input.now.ranks }
     ensures { IsLowestLeft input.now (facts A.store body.now).tables result }
 {
     for lower in 0..rank {

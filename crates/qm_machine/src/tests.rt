@@ -1,8 +1,7 @@
 //! The worked copy on the machine, and a machine that halts.
 ghost use Rattle.std.specs.Prelude.{◌≡◌, ◌<◌, ◌↔◌, true, length, IsTrue, IfOk, Contains};
 ghost use Rattle.qm_check.specs.Checks.{capacity_of};
-ghost use Rattle.qm_proto.specs.WorkedRun.{copy_programs};
-ghost use Rattle.qm_machine.specs.Built.{IsBuilt};
+ghost use Rattle.qm_proto.specs.WorkedPrograms.{copy_programs};
 
 use crate::{Cause, Halt, Machine, State, Step, Why};
 use qm_check::{CheckError, Ready, check};
@@ -200,8 +199,7 @@ fn a_receive_waits_for_the_bits(rt: HostRuntime) -> Result<(), Fail> {
 /// Rank 0 makes a qubit and turns it by `h` and `t`, so often.
 fn turning_input(alloc: Global, turns: u32) -> Result<Input, AllocError>
     requires { turns < 1000 }
-    ensures built { IfOk result IsBuilt }
-    ensures narrow { IfOk result (λ p. capacity_of p ≡ 4) }
+    ensures { IfOk result (λ p. capacity_of p ≡ 4) }
 {
     let mut input = Input::start(alloc, 1, 2)?;
     input.push(0, ALLOC)?;

@@ -1,7 +1,8 @@
 -- Acts after acts
 use Rattle.std.proofs.Common.{◌≡◌, ℕ, List, [], ◌∷◌, ◌++◌, refl, sym, ap, ◌∙◌, append_assoc}
 use Rattle.qm_proto.specs.Model.State.{Tables}
-use Rattle.qm_proto.specs.Model.Acts.{Act, done, letters_of, all_done, all_letters}
+use Rattle.qm_proto.specs.declared.Act.{Act}
+use Rattle.qm_proto.specs.Model.Acts.{done, letters_of, all_done, all_letters}
 use Rattle.qm_proto.specs.Model.May.{Limits, limits_after, limits_after_all, AllMay}
 
 pub all_done-append : (r : ℕ) (xs ys : List Act) (t : Tables) → all_done r (xs ++ ys) t ≡ all_done r ys (all_done r xs t)

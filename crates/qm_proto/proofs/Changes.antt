@@ -2,55 +2,21 @@
 use Rattle.std.proofs.Common.{◌≡◌, ◌≢◌, ℕ, nat_eq, Bool, true, false, ◌&&◌, cond, Option, inl, inr, refl, sym, ap, subst, ◌∙◌}
 use Rattle.std.proofs.lemmas.Bool.Decides.{eqb_tells}
 use Rattle.qm_denot.specs.declared.Wire.{Wire}
-use Rattle.qm_instr.specs.declared.Kind.{Kind}
-use Rattle.qm_instr.specs.declared.Kind.TheVariants as kind
 use Rattle.qm_instr.specs.declared.Lane.{Lane}
-use Rattle.qm_instr.specs.Lanes.{lane}
-use Rattle.qm_proto.specs.Model.State.{with_at, with_slot, with_lane, is_kind, is_lane}
+use Rattle.qm_instr.specs.Lanes.{is_lane}
+use Rattle.qm_instr.proofs.LaneOrder.{same_lane, lane_itself}
+use Rattle.qm_proto.specs.Model.State.{with_at, with_slot, with_lane}
 
 -- ---- the tests
-same_number : (a b : ℕ) → nat_eq a b ≡ true → a ≡ b
+pub same_number : (a b : ℕ) → nat_eq a b ≡ true → a ≡ b
 same_number a b e = elim (eqb_tells a b) [ inl h ↦ h.1 | inr h ↦ absurd (cc) ]
 
-number_itself : (a : ℕ) → nat_eq a a ≡ true
+pub number_itself : (a : ℕ) → nat_eq a a ≡ true
 number_itself a = elim (eqb_tells a a) [ inl h ↦ h.0 | inr h ↦ absurd (h.1 refl) ]
 
-both : (a b : Bool) → (a && b) ≡ true → (a ≡ true) × (b ≡ true)
+pub both : (a b : Bool) → (a && b) ≡ true → (a ≡ true) × (b ≡ true)
 both true b e = (refl, e)
 both false b e = cc
-
-same_kind : (a b : Kind) → is_kind a b ≡ true → a ≡ b
-same_kind kind.Bit kind.Bit e = refl
-same_kind kind.Copy kind.Copy e = refl
-same_kind kind.Move kind.Move e = refl
-same_kind kind.Undo kind.Undo e = refl
-same_kind kind.Reach kind.Reach e = refl
-same_kind kind.Back kind.Back e = refl
-same_kind _ _ e = cc
-
-kind_itself : (a : Kind) → is_kind a a ≡ true
-kind_itself kind.Bit = refl
-kind_itself kind.Copy = refl
-kind_itself kind.Move = refl
-kind_itself kind.Undo = refl
-kind_itself kind.Reach = refl
-kind_itself kind.Back = refl
-
-pub same_lane : (a b : Lane) → is_lane a b ≡ true → a ≡ b
-unfolding is_lane
-same_lane a b e =
-    let one = both (nat_eq a.from b.from) _ e in
-    let two = both (nat_eq a.to b.to) _ one.1 in
-    let three = both (is_kind a.kind b.kind) (nat_eq a.tag b.tag) two.1 in
-    let from = same_number a.from b.from one.0 in
-    let to = same_number a.to b.to two.0 in
-    let kind = same_kind a.kind b.kind three.0 in
-    let tag = same_number a.tag b.tag three.1 in
-    ap (λ f. lane f a.to a.kind a.tag) from ∙ ap (λ t. lane b.from t a.kind a.tag) to ∙ ap (λ k. lane b.from b.to k a.tag) kind ∙ ap (lane b.from b.to b.kind) tag
-
-pub lane_itself : (a : Lane) → is_lane a a ≡ true
-unfolding is_lane
-lane_itself a = rw (number_itself a.from, number_itself a.to, kind_itself a.kind, number_itself a.tag) refl
 
 -- ---- what holds of a choice, as the test decides
 pub by_test : {A : Type 0} (P : A → Type 0) (b : Bool) (x y : A) → (b ≡ true → P x) → (b ≡ false → P y) → P (cond b x y)
@@ -59,6 +25,10 @@ by_test P false x y at_true at_false = at_false refl
 
 not_itself : {A : Type 0} (test : A → A → Bool) → ((a : A) → test a a ≡ true) → (a b : A) → test a b ≡ false → a ≢ b
 not_itself test itself a b e s = let h : test a b ≡ true = subst (λ c. test a c ≡ true) s (itself a) in cc
+
+-- a number is the one, or another
+pub by_number : (P : ℕ → Type 0) (r : ℕ) → P r → ((k : ℕ) → k ≢ r → P k) → (k : ℕ) → P k
+by_number P r here there k = elim (eqb_tells k r) [ inl h ↦ subst P (sym h.1) here | inr h ↦ there k h.1 ]
 
 -- ---- what holds of the changed function, at the place and elsewhere
 pub by_rank : {A : Type 0} (P : A → Type 0) (f : ℕ → A) (r : ℕ) (v : A) (k : ℕ)

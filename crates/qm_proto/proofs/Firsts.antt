@@ -5,10 +5,10 @@ use Rattle.qm_instr.specs.Programs.{Programs}
 use Rattle.qm_proto.specs.declared.Cause.{Cause}
 use Rattle.qm_denot.specs.Circuits.{Circuit}
 use Rattle.qm_proto.specs.Model.State.{Tables, State}
-use Rattle.qm_proto.specs.Model.Rows.{Check}
-use Rattle.qm_proto.specs.Model.Runs.{enabled, IsAllowed, IsRefused, FirstFails, NoneFails, next}
-use Rattle.qm_proto.specs.Model.Schedules.{state_at_start, replay, IsLegal, IsLegalFrom, NoneEnabled, IsLowestEnabled, IsFirst, IsFirstFrom, IsFirstEnd, IsFirstSoFar, IsFirstSoFarFrom}
-use Rattle.qm_proto.specs.Model.Ideal.{IdealState, ideal_enabled, ideal_next, ideal_at_start, IsOneFrom, IsOneRun}
+use Rattle.qm_proto.specs.declared.Check.{Check}
+use Rattle.qm_proto.specs.Model.Runs.{enabled, IsAllowed, IsRefused, FirstFails, NoneFails, next_tables, next}
+use Rattle.qm_proto.specs.Model.Schedules.{state_at_start, replay, IsLegal, IsLegalFrom, NoneEnabled, IsLowestEnabled, IsFirst, IsFirstFrom, IsFirstEnd, IsFirstSoFar, IsFirstSoFarFrom, IsMeetingFrom}
+use Rattle.qm_proto.specs.Model.Ideal.{IdealState, ideal_enabled, ideal_next, ideal_at_start, IsIdealFrom, IsIdealRun, IsOneFrom, IsOneRun}
 
 module _ (f : ℕ → Bool) (j k : ℕ) where
   one_order : (j ≡ k) ⊎ ((j < k) ⊎ (k < j))
@@ -71,6 +71,15 @@ pub one_run_unique : (p : Programs) (xs ys : List ℕ) → IsOneRun p xs → IsO
 unfolding IsOneRun
 one_run_unique p xs ys a b = one_from_unique p (ideal_at_start p) xs ys a b
 
+one_from_run : (p : Programs) (s : IdealState) (rs : List ℕ) → IsOneFrom p s rs → IsIdealFrom p s rs
+one_from_run p s [] one = tt
+one_from_run p s (r ∷ rs) one = (one.0.known, one.0.able, one_from_run p (ideal_next p s r) rs one.1)
+
+-- which is an ideal run
+pub one_run-ideal : (p : Programs) (rs : List ℕ) → IsOneRun p rs → IsIdealRun p rs
+unfolding IsOneRun IsIdealRun
+one_run-ideal p rs one = one_from_run p (ideal_at_start p) rs one
+
 so_far_from_legal : (p : Programs) (s : State) (rs : List ℕ) → IsFirstSoFarFrom p s rs → IsLegalFrom p s rs
 so_far_from_legal p s [] a = tt
 so_far_from_legal p s (r ∷ rs) a =
@@ -117,3 +126,12 @@ pub first_so_far-push : (p : Programs) (rs : List ℕ) (r : ℕ) → IsFirstSoFa
     → IsLowestEnabled p (replay p rs).tables r → IsAllowed p (replay p rs) r → IsFirstSoFar p (rs ++ r ∷ [])
 unfolding IsFirstSoFar replay
 first_so_far-push p rs r a low allowed = so_far_from-push p (state_at_start p) rs r a low allowed
+
+-- so do they, and the tables at its beginning, determine the run with letters left aside
+pub meeting_unique : (p : Programs) (t : Tables) (xs ys : List ℕ) → IsMeetingFrom p t xs → IsMeetingFrom p t ys → xs ≡ ys
+meeting_unique p t [] [] a b = refl
+meeting_unique p t [] (y ∷ ys) a b = absurd (none_or_lowest p t y a b.0)
+meeting_unique p t (x ∷ xs) [] a b = absurd (none_or_lowest p t x b a.0)
+meeting_unique p t (x ∷ xs) (y ∷ ys) a b =
+    let same = lowest_enabled_unique p t x y a.0 b.0 in
+    ap (λ r. r ∷ xs) same ∙ ap (λ rs. y ∷ rs) (meeting_unique p (next_tables p t y) xs ys (rw same at a.1) b.1)

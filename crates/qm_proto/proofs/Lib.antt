@@ -3,9 +3,10 @@ pub mod Meetings
 pub mod WorkedRuns
 pub mod Orders
 pub mod Firsts
-pub mod OneRank
+pub mod WorkedWaits
 pub mod ActLists
 pub mod Replays
+pub mod IdealRuns
 pub mod Changes
 pub mod TidyPlaces
 pub mod TidyChanges

@@ -2,7 +2,9 @@
 use Rattle.std.proofs.Common.{◌≡◌, ◌≢◌, ℕ, Option, List, [], ◌∷◌, refl, ap, ◌∙◌}
 use Rattle.qm_denot.specs.declared.Wire.{Wire}
 use Rattle.qm_proto.specs.Model.State.{Part, Tables, with_slot}
-use Rattle.qm_proto.specs.Model.Acts.{Act, Fresh, Twin, Apply, SlotOut, NearOut, FarOut, Settle, Posts, Fills, Receives, OwnUsed, ProtocolUsed, FirstKept, BitSet, done, all_done}
+use Rattle.qm_proto.specs.declared.Act.{Act}
+use Rattle.qm_proto.specs.declared.Act.TheVariants.{Fresh, Twin, Apply, SlotOut, NearOut, FarOut, Settle, Posts, Fills, Receives, OwnUsed, ProtocolUsed, FirstKept, BitSet}
+use Rattle.qm_proto.specs.Model.Acts.{done, all_done}
 use Rattle.qm_proto.proofs.Changes.{with_at-elsewhere, with_at-keeps, with_slot-elsewhere}
 
 -- what each act of rank r keeps of the tables, all acts of a list keep

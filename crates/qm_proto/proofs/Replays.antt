@@ -1,5 +1,5 @@
 -- A schedule with one entry more, and what holds after each legal schedule
-use Rattle.std.proofs.Common.{◌≡◌, ℕ, ◌+◌, List, [], ◌∷◌, ◌++◌, length, fold, subst, arith}
+use Rattle.std.proofs.Common.{◌≡◌, ℕ, ◌+◌, List, [], ◌∷◌, ◌++◌, length, fold, refl, sym, ap, subst, ◌∙◌, arith}
 use Rattle.std.proofs.lemmas.List.Sums.{fold_push}
 use Rattle.qm_instr.specs.Programs.{Programs}
 use Rattle.qm_proto.specs.Model.State.{State}
@@ -41,3 +41,27 @@ pub over_legal : (p : Programs) (P : State → Type 0) → P (state_at_start p)
     → ((s : State) (r : ℕ) → P s → MayStep p s r → P (next p s r))
     → (rs : List ℕ) → IsLegal p rs → P (replay p rs)
 over_legal p P start step rs legal = over_legal_counted p (λ n s. P s) start (λ n s r h may. step s r h may) rs legal
+
+-- and so it is where each step is known to go on from a legal schedule
+module _ (p : Programs) (P : State → Type 0) (start : P (state_at_start p))
+    (step : (qs : List ℕ) (r : ℕ) → IsLegal p qs → MayStep p (replay p qs) r → P (replay p qs) → P (next p (replay p qs) r)) where
+  -- a legal schedule leads to the state, and P is so of it
+  abbrev IsReached : State → Type 0
+  IsReached s = (qs : List ℕ) × IsLegal p qs × (replay p qs ≡ s) × P s
+
+  start_reached : IsReached (state_at_start p)
+  unfolding replay IsLegal
+  start_reached = ([], tt, refl, start)
+
+  step_reached : (s : State) (r : ℕ) → IsReached s → MayStep p s r → IsReached (next p s r)
+  step_reached s r (qs, legal, left, so) may =
+      let may_there : MayStep p (replay p qs) r = subst (λ u. MayStep p u r) (sym left) may in
+      let here : P (replay p qs) = subst P (sym left) so in (
+        qs ++ r ∷ [],
+        legal-push p qs r legal may_there,
+        replay-push p qs r ∙ ap (λ u. next p u r) left,
+        subst (λ u. P (next p u r)) left (step qs r legal may_there here),
+      )
+
+  pub over_runs : (rs : List ℕ) → IsLegal p rs → P (replay p rs)
+  over_runs rs legal = (over_legal p IsReached start_reached step_reached rs legal).3

@@ -1,22 +1,23 @@
 -- Every act keeps the tables tidy, and what tidy tables give the next act
-use Rattle.std.proofs.Common.{◌≡◌, ℕ, ◌+◌, ◌<◌, ◌≤◌, true, false, Some, None, List, [], ◌∷◌, ◌++◌, drop, slice_set, Contains, inl, inr, refl, sym, ap, subst, arith}
-use Rattle.std.proofs.lemmas.List.Elements.{Contains-push}
+use Rattle.std.proofs.Common.{◌≡◌, ℕ, ◌+◌, ◌<◌, ◌≤◌, true, false, Some, None, List, [], ◌∷◌, drop, slice_set, inl, inr, refl, sym, ap, subst, arith}
 use Rattle.std.proofs.lemmas.Option.{same_Some}
 use Rattle.qm_denot.specs.declared.Wire.{Wire}
-use Rattle.qm_denot.specs.WireLists.{without_wire}
+use Rattle.qm_denot.specs.Wires.{no_wires, has, put}
+use Rattle.qm_denot.proofs.Sets.{has-no_wires}
 use Rattle.qm_instr.specs.declared.Lane.{Lane}
 use Rattle.qm_instr.specs.Programs.{Programs}
-use Rattle.qm_proto.specs.declared.Parcel.{Parcel}
 use Rattle.qm_proto.specs.Model.State.{Part, Tables, with_at, with_part, front, far_made, near_made, near_last}
-use Rattle.qm_proto.specs.Model.Acts.{Act, Fresh, Twin, Apply, SlotOut, NearOut, FarOut, Settle, Posts, Fills, Receives, OwnUsed, ProtocolUsed, FirstKept, BitSet, counted, done, all_done}
+use Rattle.qm_proto.specs.declared.Act.{Act}
+use Rattle.qm_proto.specs.declared.Act.TheVariants.{Fresh, Twin, Apply, SlotOut, NearOut, FarOut, Settle, Posts, Fills, Receives, OwnUsed, ProtocolUsed, FirstKept, BitSet}
+use Rattle.qm_proto.specs.Model.Acts.{counted, more_at, less_at, done, all_done}
 use Rattle.qm_proto.specs.Model.Rows.{half}
 use Rattle.qm_proto.specs.Model.Schedules.{tables_at_start}
 use Rattle.qm_proto.specs.Model.Places.{Place, InSlot, NearOf, FarOf, IsAt, IsPlaced, IsOnlyAt}
 use Rattle.qm_proto.specs.Model.May.{MaySettle}
 use Rattle.qm_proto.specs.Model.Tidy.{IsTidy, IsPostable, IsInHand, KeepsTidy}
 use Rattle.qm_proto.proofs.Changes.{by_rank, with_at-here}
-use Rattle.qm_proto.proofs.TidyPlaces.{without_wire-lacks}
-use Rattle.qm_proto.proofs.TidyChanges.{near_more, far_less, before_near_more, before_far_less, tidy_parts, tidy_emptied, tidy_near_less, tidy_far_less, tidy_filled, tidy_near_more, tidy_far_more}
+use Rattle.qm_proto.proofs.TidyPlaces.{lacks_gone, has_new}
+use Rattle.qm_proto.proofs.TidyChanges.{near_more, near_less, far_more, far_less, slot_changed, tidy_counts, before_near_more, before_far_less, tidy_parts, tidy_emptied, tidy_near_less, tidy_far_less, tidy_filled, tidy_near_more, tidy_far_more}
 use Rattle.qm_proto.proofs.TidyLanes.{front_carried, tidy_filled_lane, tidy_pushed, tidy_taken, taken_free}
 
 -- ---- what tidy tables say
@@ -41,16 +42,14 @@ pub tidy_at_start : (p : Programs) → IsTidy (tables_at_start p)
 tidy_at_start p = record {
   one_place = λ w o q h k. absurd (nowhere w o h);
   counted = λ w o h. absurd (nowhere w o h);
-  near_once = λ r. tt;
-  far_once = λ r. tt;
   carried = λ a k w c. absurd (cc);
   carried_once = λ a b k j w c d. absurd (cc);
 }
   where
     nowhere : (w : Wire) (o : Place) → ¬ IsAt (tables_at_start p) w o
     nowhere w (InSlot r q) h = cc
-    nowhere w (NearOf r) (k, below, is) = omega arith
-    nowhere w (FarOf r) (k, below, is) = omega arith
+    nowhere w (NearOf r) h = let e : has no_wires w ≡ false = has-no_wires w in cc
+    nowhere w (FarOf r) h = let e : has no_wires w ≡ false = has-no_wires w in cc
 
 -- ---- another part of a rank
 -- no count falls
@@ -97,13 +96,16 @@ module _ (r : ℕ) (t : Tables) (tidy : IsTidy t) where
     | inr new ↦ let e = new.0 in let n : false ≡ true = ap (λ (w : Wire). w.near) e in cc
   ]
 
-  pub tidy_twin : (to : ℕ) → IsTidy (done r (Twin to) t)
+  abbrev pub twin_places : ℕ → Tables
+  twin_places to = far_more (near_more counting r (near_made t r)) to (far_made t r)
+
+  pub tidy_twin : (to : ℕ) → IsTidy (twin_places to)
   tidy_twin to =
       let near = tidy_near_more counting tidy_counting (near_made t r) near_absent below r in
       tidy_far_more (near_more counting r (near_made t r)) near (far_made t r) far_after_near below to
 
 -- a half in hand that goes into a slot
-tidy_settled : (r : ℕ) (f : Wire) (q : ℕ) (t : Tables) → IsTidy t → IsInHand t r f → IsTidy (done r (Settle f q) t)
+tidy_settled : (r : ℕ) (f : Wire) (q : ℕ) (t : Tables) → IsTidy t → IsInHand t r f → IsTidy (slot_changed (far_less t r f) r q (Some f))
 tidy_settled r f q t tidy hand =
     let less = tidy_far_less t tidy r f hand.free in
     let below : f.made < (t.parts f.rank).made = tidy.counted f (FarOf r) hand.half in
@@ -113,17 +115,18 @@ tidy_settled r f q t tidy hand =
     gone (o, h) =
         let here : o ≡ FarOf r = tidy.one_place f o (FarOf r) (before_far_less t r f f o h) hand.half in
         let c : IsAt (far_less t r f) f (FarOf r) = subst (IsAt (far_less t r f) f) here h in
-        without_wire-lacks (t.far r) f (subst (λ ws. Contains ws f) (with_at-here t.far r (without_wire (t.far r) f)) c)
+        let here : has (put (t.far r) f false) f ≡ true = subst (λ ws. has ws f ≡ true) (with_at-here t.far r (put (t.far r) f false)) c in
+        let none = lacks_gone (t.far r) f in cc
 
 -- ---- every act
 pub tidy_done : (r : ℕ) (act : Act) (t : Tables) → IsTidy t → KeepsTidy r act t → IsTidy (done r act t)
 tidy_done r (Fresh q) t tidy keeps = tidy_fresh r t tidy q
-tidy_done r (Twin to) t tidy keeps = tidy_twin r t tidy to
+tidy_done r (Twin to) t tidy keeps = tidy_counts (twin_places r t tidy to) (more_at (more_at t.held r) to) (tidy_twin r t tidy to)
 tidy_done r (Apply l) t tidy keeps = tidy
 tidy_done r (SlotOut q m) t tidy keeps = tidy_emptied t tidy r q
-tidy_done r (NearOut m) t tidy keeps = tidy_near_less t tidy r (near_last t r)
-tidy_done r (FarOut f m) t tidy keeps = tidy_far_less t tidy r f keeps.free
-tidy_done r (Settle f q) t tidy keeps = tidy_settled r f q t tidy keeps.0
+tidy_done r (NearOut m) t tidy keeps = tidy_counts (near_less t r (near_last t r)) (less_at t.held r) (tidy_near_less t tidy r (near_last t r))
+tidy_done r (FarOut f m) t tidy keeps = tidy_counts (far_less t r f) (less_at t.held r) (tidy_far_less t tidy r f keeps.free)
+tidy_done r (Settle f q) t tidy keeps = tidy_counts (slot_changed (far_less t r f) r q (Some f)) (less_at t.held r) (tidy_settled r f q t tidy keeps.0)
 tidy_done r (Posts a x) t tidy keeps = tidy_pushed t tidy a x keeps
 tidy_done r (Fills a b) t tidy keeps = tidy_filled_lane t tidy a b
 tidy_done r (Receives a) t tidy keeps =
@@ -155,13 +158,13 @@ received_in_hand t a f tidy e =
 pub twin_postable : (r to : ℕ) (t : Tables) (a : Lane) → IsTidy t → a.to ≡ to → IsPostable (done r (Twin to) t) a (half (far_made t r))
 twin_postable r to t a tidy e =
     record {
-      half = λ w s. subst (λ v. Contains ((done r (Twin to) t).far a.to) v) (same_Some (far_made t r) w s) there;
+      half = λ w s. subst (λ v. has ((done r (Twin to) t).far a.to) v ≡ true) (same_Some (far_made t r) w s) there;
       free = λ w s (c, k, h). far_made_absent t tidy r (
         FarOf c.to,
-        subst (λ v. Contains (t.far c.to) v) (sym (same_Some (far_made t r) w s))
+        subst (λ v. has (t.far c.to) v ≡ true) (sym (same_Some (far_made t r) w s))
             (tidy.carried c k w (record { parcel = h.parcel; there = h.there; wire = h.wire })),
       );
     }
   where
-    there : Contains ((done r (Twin to) t).far a.to) (far_made t r)
-    there = rw (e, with_at-here t.far to (t.far to ++ far_made t r ∷ [])) (Contains-push (t.far to) (far_made t r))
+    there : has ((done r (Twin to) t).far a.to) (far_made t r) ≡ true
+    there = rw (e, with_at-here t.far to (put (t.far to) (far_made t r) true)) (has_new (t.far to) (far_made t r))

@@ -1,48 +1,45 @@
 -- Each single change of slots, halves, counts and lanes keeps tables tidy
-use Rattle.std.proofs.Common.{◌≡◌, ◌≢◌, ℕ, ◌<◌, ◌≤◌, ◌⊎◌, Option, Some, None, List, [], ◌∷◌, ◌++◌, Contains, inl, inr, refl, sym, ap, subst, ◌∙◌, arith}
-use Rattle.std.proofs.lemmas.List.Elements.{Contains-push_cases, Contains-append_left}
+use Rattle.std.proofs.Common.{◌≡◌, ◌≢◌, ℕ, ◌<◌, ◌≤◌, ◌⊎◌, Option, Some, None, true, false, inl, inr, refl, sym, ap, subst, ◌∙◌, arith}
 use Rattle.std.proofs.lemmas.Option.{same_Some}
 use Rattle.qm_denot.specs.declared.Wire.{Wire}
-use Rattle.qm_denot.specs.WireLists.{Distinct, without_wire}
-use Rattle.qm_denot.proofs.NameLists.{Distinct-without_wire}
-use Rattle.qm_denot.proofs.LiveWires.{Lacks-from_absent, Distinct-push}
+use Rattle.qm_denot.specs.Wires.{Wires, has, put}
 use Rattle.qm_proto.specs.Model.State.{Part, Tables, no_wire, with_at, with_slot}
 use Rattle.qm_proto.specs.Model.Places.{Place, InSlot, NearOf, FarOf, IsAt, IsPlaced}
 use Rattle.qm_proto.specs.Model.Tidy.{IsCarried, IsTidy}
 use Rattle.qm_proto.proofs.Changes.{by_rank, by_slot}
-use Rattle.qm_proto.proofs.TidyPlaces.{KeepsRest, tidy_where_gone, tidy_where_new, Contains-where_without_wire, Contains-without_wire}
+use Rattle.qm_proto.proofs.TidyPlaces.{KeepsRest, tidy_where_gone, tidy_where_new, has_cases, has_where_less, has_more, has_less}
 
 -- ---- the tables after each of them
 abbrev pub slot_changed : Tables → ℕ → ℕ → Option Wire → Tables
 slot_changed t r q o = record t { slots = with_slot t.slots r q o }
 
 abbrev pub near_more : Tables → ℕ → Wire → Tables
-near_more t r w = record t { near = with_at t.near r (t.near r ++ w ∷ []) }
+near_more t r w = record t { near = with_at t.near r (put (t.near r) w true) }
 
 abbrev pub far_more : Tables → ℕ → Wire → Tables
-far_more t r w = record t { far = with_at t.far r (t.far r ++ w ∷ []) }
+far_more t r w = record t { far = with_at t.far r (put (t.far r) w true) }
 
 abbrev pub near_less : Tables → ℕ → Wire → Tables
-near_less t r w = record t { near = with_at t.near r (without_wire (t.near r) w) }
+near_less t r w = record t { near = with_at t.near r (put (t.near r) w false) }
 
 abbrev pub far_less : Tables → ℕ → Wire → Tables
-far_less t r w = record t { far = with_at t.far r (without_wire (t.far r) w) }
+far_less t r w = record t { far = with_at t.far r (put (t.far r) w false) }
 
 -- ---- which places were there before
 module _ (t : Tables) (r : ℕ) (w v : Wire) where
-  halves_before : (f : ℕ → List Wire) (k : ℕ) → Contains (with_at f r (f r ++ w ∷ []) k) v → Contains (f k) v ⊎ ((v ≡ w) × (k ≡ r))
+  halves_before : (f : ℕ → Wires) (k : ℕ) → has (with_at f r (put (f r) w true) k) v ≡ true → (has (f k) v ≡ true) ⊎ ((v ≡ w) × (k ≡ r))
   halves_before f k h =
-      by_rank (λ ws. Contains ws v → Contains (f k) v ⊎ ((v ≡ w) × (k ≡ r))) f r (f r ++ w ∷ []) k
-      (λ e c. elim (Contains-push_cases (f r) w v c) [
-        | inl old ↦ inl (subst (λ j. Contains (f j) v) (sym e) old)
-        | inr new ↦ inr (sym new, e)
+      by_rank (λ ws. has ws v ≡ true → (has (f k) v ≡ true) ⊎ ((v ≡ w) × (k ≡ r))) f r (put (f r) w true) k
+      (λ e c. elim (has_cases (f r) w v c) [
+        | inl old ↦ inl (subst (λ j. has (f j) v ≡ true) (sym e) old)
+        | inr new ↦ inr (new, e)
       ])
       (λ _ c. inl c) h
 
-  fewer_before : (f : ℕ → List Wire) (k : ℕ) → Contains (with_at f r (without_wire (f r) w) k) v → Contains (f k) v
+  fewer_before : (f : ℕ → Wires) (k : ℕ) → has (with_at f r (put (f r) w false) k) v ≡ true → has (f k) v ≡ true
   fewer_before f k h =
-      by_rank (λ ws. Contains ws v → Contains (f k) v) f r (without_wire (f r) w) k
-      (λ e c. subst (λ j. Contains (f j) v) (sym e) (Contains-where_without_wire (f r) w v c)) (λ _ c. c) h
+      by_rank (λ ws. has ws v ≡ true → has (f k) v ≡ true) f r (put (f r) w false) k
+      (λ e c. subst (λ j. has (f j) v ≡ true) (sym e) (has_where_less (f r) w v c)) (λ _ c. c) h
 
   pub before_filled : (q : ℕ) (o : Place) → IsAt (slot_changed t r q (Some w)) v o → IsAt t v o ⊎ ((v ≡ w) × (o ≡ InSlot r q))
   before_filled q (InSlot k p) h =
@@ -77,28 +74,29 @@ module _ (t : Tables) (r : ℕ) (w v : Wire) where
   before_far_less (NearOf k) h = h
   before_far_less (FarOf k) h = fewer_before t.far k h
 
--- ---- each list has a wire once
-once_more : (f : ℕ → List Wire) (r : ℕ) (w : Wire) → ((k : ℕ) → Distinct (f k)) → ¬ Contains (f r) w
-    → (k : ℕ) → Distinct (with_at f r (f r ++ w ∷ []) k)
-once_more f r w once absent k =
-    by_rank Distinct f r (f r ++ w ∷ []) k (λ _. Distinct-push (f r) w (once r) (Lacks-from_absent (f r) w absent)) (λ _. once k)
-
-once_less : (f : ℕ → List Wire) (r : ℕ) (w : Wire) → ((k : ℕ) → Distinct (f k)) → (k : ℕ) → Distinct (with_at f r (without_wire (f r) w) k)
-once_less f r w once k = by_rank Distinct f r (without_wire (f r) w) k (λ _. Distinct-without_wire (f r) w (once r)) (λ _. once k)
-
 -- ---- the halves that stay
-pub stays_more : (f : ℕ → List Wire) (r : ℕ) (w v : Wire) (k : ℕ) → Contains (f k) v → Contains (with_at f r (f r ++ w ∷ []) k) v
+pub stays_more : (f : ℕ → Wires) (r : ℕ) (w v : Wire) (k : ℕ) → has (f k) v ≡ true → has (with_at f r (put (f r) w true) k) v ≡ true
 stays_more f r w v k h =
-    by_rank (λ ws. Contains ws v) f r (f r ++ w ∷ []) k (λ e. Contains-append_left (f r) (w ∷ []) v (subst (λ j. Contains (f j) v) e h)) (λ _. h)
+    by_rank (λ ws. has ws v ≡ true) f r (put (f r) w true) k (λ e. has_more (f r) w v (subst (λ j. has (f j) v ≡ true) e h)) (λ _. h)
 
-pub stays_less : (f : ℕ → List Wire) (r : ℕ) (w v : Wire) (k : ℕ) → v ≢ w → Contains (f k) v → Contains (with_at f r (without_wire (f r) w) k) v
+pub stays_less : (f : ℕ → Wires) (r : ℕ) (w v : Wire) (k : ℕ) → v ≢ w → has (f k) v ≡ true → has (with_at f r (put (f r) w false) k) v ≡ true
 stays_less f r w v k ne h =
-    by_rank (λ ws. Contains ws v) f r (without_wire (f r) w) k (λ e. Contains-without_wire (f r) w v ne (subst (λ j. Contains (f j) v) e h)) (λ _. h)
+    by_rank (λ ws. has ws v ≡ true) f r (put (f r) w false) k (λ e. has_less (f r) w v ne (subst (λ j. has (f j) v ≡ true) e h)) (λ _. h)
+
+-- counts have no say in it
+pub tidy_counts : (t : Tables) (held : ℕ → ℕ) → IsTidy t → IsTidy (record t { held = held })
+tidy_counts t held tidy =
+    tidy_where_gone t (record t { held = held }) tidy (record { made = λ k. omega arith; lanes = λ a. refl; carried = λ r w c h. h }) back
+  where
+    back : (v : Wire) (o : Place) → IsAt (record t { held = held }) v o → IsAt t v o
+    back v (InSlot k p) h = h
+    back v (NearOf k) h = h
+    back v (FarOf k) h = h
 
 module _ (t : Tables) (tidy : IsTidy t) where
   still : (ps : ℕ → Part) (slots : ℕ → ℕ → Option Wire) → ((k : ℕ) → (t.parts k).made ≤ (ps k).made)
       → KeepsRest t (record t { parts = ps; slots = slots })
-  still ps slots made = record { made = made; lanes = λ a. refl; near_once = tidy.near_once; far_once = tidy.far_once; carried = λ r w c h. h }
+  still ps slots made = record { made = made; lanes = λ a. refl; carried = λ r w c h. h }
 
   same_place : (ps : ℕ → Part) (v : Wire) (o : Place) → IsAt (record t { parts = ps }) v o → IsAt t v o
   same_place ps v (InSlot k p) h = h
@@ -116,7 +114,7 @@ module _ (t : Tables) (tidy : IsTidy t) where
   pub tidy_near_less : (r : ℕ) (w : Wire) → IsTidy (near_less t r w)
   tidy_near_less r w =
       tidy_where_gone t (near_less t r w) tidy
-      (record { made = λ k. omega arith; lanes = λ a. refl; near_once = once_less t.near r w tidy.near_once; far_once = tidy.far_once; carried = λ k v c h. h })
+      (record { made = λ k. omega arith; lanes = λ a. refl; carried = λ k v c h. h })
       (λ v. before_near_less t r w v)
 
   pub tidy_far_less : (r : ℕ) (w : Wire) → ¬ IsCarried t w → IsTidy (far_less t r w)
@@ -125,8 +123,6 @@ module _ (t : Tables) (tidy : IsTidy t) where
       (record {
         made = λ k. omega arith;
         lanes = λ a. refl;
-        near_once = tidy.near_once;
-        far_once = once_less t.far r w tidy.far_once;
         carried = λ k v c h. stays_less t.far r w v k (λ e. free (subst (IsCarried t) e c)) h;
       })
       (λ v. before_far_less t r w v)
@@ -144,8 +140,6 @@ module _ (t : Tables) (tidy : IsTidy t) where
         (record {
           made = λ k. omega arith;
           lanes = λ a. refl;
-          near_once = once_more t.near r w tidy.near_once (λ h. absent (NearOf r, h));
-          far_once = tidy.far_once;
           carried = λ k v c h. h;
         })
         w (NearOf r) absent counted (λ v. before_near_more t r w v)
@@ -156,8 +150,6 @@ module _ (t : Tables) (tidy : IsTidy t) where
         (record {
           made = λ k. omega arith;
           lanes = λ a. refl;
-          near_once = tidy.near_once;
-          far_once = once_more t.far r w tidy.far_once (λ h. absent (FarOf r, h));
           carried = λ k v c h. stays_more t.far r w v k h;
         })
         w (FarOf r) absent counted (λ v. before_far_more t r w v)

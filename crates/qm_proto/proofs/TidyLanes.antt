@@ -1,10 +1,11 @@
 -- Changes of lanes that keep tables tidy
-use Rattle.std.proofs.Common.{◌≡◌, ◌≢◌, ℕ, zero, suc, ◌⊎◌, Bool, Some, List, [], ◌∷◌, ◌++◌, length, slice_get, slice_index_or, drop, Contains, inl, inr, refl, sym, ap, subst, ◌∙◌, arith}
+use Rattle.std.proofs.Common.{◌≡◌, ◌≢◌, ℕ, zero, suc, ◌⊎◌, Bool, Some, List, [], ◌∷◌, ◌++◌, length, slice_get, slice_index_or, drop, inl, inr, refl, sym, ap, subst, ◌∙◌, arith, true}
 use Rattle.qm_denot.specs.declared.Wire.{Wire}
+use Rattle.qm_denot.specs.Wires.{has}
 use Rattle.qm_instr.specs.declared.Lane.{Lane}
-use Rattle.qm_proto.specs.declared.Parcel.{Parcel}
+use Rattle.qm_denot.specs.declared.Parcel.{Parcel}
 use Rattle.qm_proto.specs.Model.State.{Tables, with_lane, no_parcel, front}
-use Rattle.qm_proto.specs.Model.Acts.{filled}
+use Rattle.qm_denot.specs.Parcels.{filled}
 use Rattle.qm_proto.specs.Model.Places.{Place, InSlot, NearOf, FarOf, IsAt}
 use Rattle.qm_proto.specs.Model.Tidy.{Carries, IsCarried, IsTidy, IsPostable}
 use Rattle.qm_proto.proofs.Changes.{by_lane}
@@ -95,14 +96,12 @@ module _ (t : Tables) (tidy : IsTidy t) (a : Lane) where
   same_place xs w (NearOf k) h = h
   same_place xs w (FarOf k) h = h
 
-  tidy_lane : (xs : List Parcel) → ((c : Lane) (k : ℕ) (w : Wire) → Carries (lane_changed t a xs) c k w → Contains (t.far c.to) w)
+  tidy_lane : (xs : List Parcel) → ((c : Lane) (k : ℕ) (w : Wire) → Carries (lane_changed t a xs) c k w → has (t.far c.to) w ≡ true)
       → ((c d : Lane) (k j : ℕ) (w : Wire) → Carries (lane_changed t a xs) c k w → Carries (lane_changed t a xs) d j w → (c ≡ d) × (k ≡ j))
       → IsTidy (lane_changed t a xs)
   tidy_lane xs carried once = record {
     one_place = λ w p q h k. tidy.one_place w p q (same_place xs w p h) (same_place xs w q k);
     counted = λ w p h. tidy.counted w p (same_place xs w p h);
-    near_once = tidy.near_once;
-    far_once = tidy.far_once;
     carried = carried;
     carried_once = once;
   }
@@ -113,10 +112,10 @@ module _ (t : Tables) (tidy : IsTidy t) (a : Lane) where
       (λ c d k j w h i. tidy.carried_once c d k j w (carried_before_fill t a b c k w h) (carried_before_fill t a b d j w i))
 
   module _ (x : Parcel) (postable : IsPostable t a x) where
-    carried_pushed : (c : Lane) (k : ℕ) (w : Wire) → Carries (lane_changed t a (t.lanes a ++ x ∷ [])) c k w → Contains (t.far c.to) w
+    carried_pushed : (c : Lane) (k : ℕ) (w : Wire) → Carries (lane_changed t a (t.lanes a ++ x ∷ [])) c k w → has (t.far c.to) w ≡ true
     carried_pushed c k w h = elim (carried_before_push t a x c k w h) [
       | inl old ↦ tidy.carried c k w old
-      | inr new ↦ subst (λ (d : Lane). Contains (t.far d.to) w) (sym new.0) (postable.half w new.2)
+      | inr new ↦ subst (λ (d : Lane). has (t.far d.to) w ≡ true) (sym new.0) (postable.half w new.2)
     ]
 
     once_pushed : (c d : Lane) (k j : ℕ) (w : Wire) → Carries (lane_changed t a (t.lanes a ++ x ∷ [])) c k w
@@ -135,7 +134,7 @@ module _ (t : Tables) (tidy : IsTidy t) (a : Lane) where
     pub tidy_pushed : IsTidy (lane_changed t a (t.lanes a ++ x ∷ []))
     tidy_pushed = tidy_lane (t.lanes a ++ x ∷ []) carried_pushed once_pushed
 
-  carried_taken : (c : Lane) (k : ℕ) (w : Wire) → Carries (lane_changed t a (drop 1 (t.lanes a))) c k w → Contains (t.far c.to) w
+  carried_taken : (c : Lane) (k : ℕ) (w : Wire) → Carries (lane_changed t a (drop 1 (t.lanes a))) c k w → has (t.far c.to) w ≡ true
   carried_taken c k w h = elim (carried_before_take t a c k w h) [ inl old ↦ tidy.carried c (suc k) w old.1 | inr old ↦ tidy.carried c k w old.1 ]
 
   once_taken : (c d : Lane) (k j : ℕ) (w : Wire) → Carries (lane_changed t a (drop 1 (t.lanes a))) c k w

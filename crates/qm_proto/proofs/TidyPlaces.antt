@@ -1,9 +1,9 @@
 -- Changes of the tables that keep each wire in one place
-use Rattle.std.proofs.Common.{◌≡◌, ◌≢◌, ℕ, zero, suc, ◌<◌, ◌≤◌, ◌⊎◌, List, [], ◌∷◌, Contains, inl, inr, sym, subst, ◌∙◌, arith}
+use Rattle.std.proofs.Common.{◌≡◌, ◌≢◌, ℕ, zero, suc, ◌<◌, ◌≤◌, ◌⊎◌, List, [], ◌∷◌, Contains, Bool, true, false, cond, inl, inr, refl, ap, sym, subst, ◌∙◌, arith}
 use Rattle.qm_denot.specs.declared.Wire.{Wire}
-use Rattle.qm_denot.specs.Wires.{is_wire}
-use Rattle.qm_denot.specs.WireLists.{Distinct, without_wire}
-use Rattle.qm_denot.proofs.Sets.{same_from_is}
+use Rattle.qm_denot.specs.Wires.{Wires, is_wire, has, put}
+use Rattle.qm_denot.specs.WireLists.{without_wire}
+use Rattle.qm_denot.proofs.Sets.{same_from_is, is_wire_itself, is_wire_other, has-put}
 use Rattle.qm_denot.proofs.NameLists.{Lacks-without_wire_itself}
 use Rattle.qm_denot.proofs.LiveWires.{absent_where_lacked}
 use Rattle.qm_instr.specs.declared.Lane.{Lane}
@@ -41,6 +41,38 @@ Contains-without_wire (u ∷ ws) w v ne (suc k, below, is) =
 pub without_wire-lacks : (ws : List Wire) (w : Wire) → ¬ Contains (without_wire ws w) w
 without_wire-lacks ws w = absent_where_lacked (without_wire ws w) w (Lacks-without_wire_itself ws w)
 
+-- ---- a set with one wire more, and with one less
+module _ (x : Wires) (w v : Wire) where
+  pub has_cases : has (put x w true) v ≡ true → (has x v ≡ true) ⊎ (v ≡ w)
+  has_cases h = by_is (is_wire v w) refl (sym (has-put x w true v) ∙ h)
+    where
+      by_is : (b : Bool) → is_wire v w ≡ b → cond b true (has x v) ≡ true → (has x v ≡ true) ⊎ (v ≡ w)
+      by_is true e k = inr (same_from_is v w e)
+      by_is false e k = inl k
+
+  pub has_where_less : has (put x w false) v ≡ true → has x v ≡ true
+  has_where_less h = by_is (is_wire v w) (sym (has-put x w false v) ∙ h)
+    where
+      by_is : (b : Bool) → cond b false (has x v) ≡ true → has x v ≡ true
+      by_is true k = cc
+      by_is false k = k
+
+  pub has_more : has x v ≡ true → has (put x w true) v ≡ true
+  has_more h = has-put x w true v ∙ by_is (is_wire v w)
+    where
+      by_is : (b : Bool) → cond b true (has x v) ≡ true
+      by_is true = refl
+      by_is false = h
+
+  pub has_less : v ≢ w → has x v ≡ true → has (put x w false) v ≡ true
+  has_less ne h = has-put x w false v ∙ ap (λ b. cond b false (has x v)) (is_wire_other v w ne) ∙ h
+
+pub lacks_gone : (x : Wires) (w : Wire) → has (put x w false) w ≡ false
+lacks_gone x w = has-put x w false w ∙ ap (λ b. cond b false (has x w)) (is_wire_itself w)
+
+pub has_new : (x : Wires) (w : Wire) → has (put x w true) w ≡ true
+has_new x w = has-put x w true w ∙ ap (λ b. cond b true (has x w)) (is_wire_itself w)
+
 -- ---- tables with the same parcels
 pub same_carried : (t u : Tables) (a : Lane) (k : ℕ) (w : Wire) → u.lanes a ≡ t.lanes a → Carries u a k w → Carries t a k w
 same_carried t u a k w e c = record { parcel = c.parcel; there = rw (← e) c.there; wire = c.wire }
@@ -50,15 +82,13 @@ same_carried t u a k w e c = record { parcel = c.parcel; there = rw (← e) c.th
 pub record KeepsRest (t u : Tables) : Type 0 where
   pub made : (k : ℕ) → (t.parts k).made ≤ (u.parts k).made
   pub lanes : (a : Lane) → u.lanes a ≡ t.lanes a
-  pub near_once : (r : ℕ) → Distinct (u.near r)
-  pub far_once : (r : ℕ) → Distinct (u.far r)
-  pub carried : (r : ℕ) (w : Wire) → IsCarried t w → Contains (t.far r) w → Contains (u.far r) w
+  pub carried : (r : ℕ) (w : Wire) → IsCarried t w → has (t.far r) w ≡ true → has (u.far r) w ≡ true
 
 module _ (t u : Tables) (tidy : IsTidy t) (keeps : KeepsRest t u) where
   same : (a : Lane) (k : ℕ) (w : Wire) → Carries u a k w → Carries t a k w
   same a k w = same_carried t u a k w (keeps.lanes a)
 
-  carried_still : (a : Lane) (k : ℕ) (w : Wire) → Carries u a k w → Contains (u.far a.to) w
+  carried_still : (a : Lane) (k : ℕ) (w : Wire) → Carries u a k w → has (u.far a.to) w ≡ true
   carried_still a k w c = let old = same a k w c in keeps.carried a.to w (a, k, old) (tidy.carried a k w old)
 
   once_still : (a b : Lane) (k j : ℕ) (w : Wire) → Carries u a k w → Carries u b j w → (a ≡ b) × (k ≡ j)
@@ -75,8 +105,6 @@ module _ (t u : Tables) (tidy : IsTidy t) (keeps : KeepsRest t u) where
   tidy_where_gone from = record {
     one_place = λ w p q h k. tidy.one_place w p q (from w p h) (from w q k);
     counted = λ w p h. counted_still w p (from w p h);
-    near_once = keeps.near_once;
-    far_once = keeps.far_once;
     carried = carried_still;
     carried_once = once_still;
   }
@@ -103,8 +131,6 @@ module _ (t u : Tables) (tidy : IsTidy t) (keeps : KeepsRest t u) where
     tidy_where_new = record {
       one_place = one_place_new;
       counted = counted_new;
-      near_once = keeps.near_once;
-      far_once = keeps.far_once;
       carried = carried_still;
       carried_once = once_still;
     }

@@ -1,5 +1,5 @@
 -- The runs that were worked out by hand, which compute
-use Rattle.std.proofs.Common.{◌≡◌, ℕ, Bool, true, false, cond, List, [], ◌∷◌, length, refl, inl, lit<}
+use Rattle.std.proofs.Common.{◌≡◌, ℕ, Bool, true, false, cond, List, [], ◌∷◌, ◌++◌, length, not, refl, inl, lit<}
 use Rattle.qm_zomega.specs.Numbers.{zero_number, one_number, plus, minus, turned, negative, ◌⊕◌, ◌⊖◌, norm}
 use Rattle.qm_zomega.specs.Range.{FitsZw}
 use Rattle.qm_zomega.proofs.Laws.Ranges.{fits_where_norm_below}
@@ -7,14 +7,17 @@ use Rattle.qm_denot.specs.declared.Wire.{Wire}
 use Rattle.qm_denot.specs.declared.Letter.TheVariants.{Flip, Had, Cx, Pair, Take}
 use Rattle.qm_denot.specs.Wires.{Wires, put, is_wire, is_empty}
 use Rattle.qm_denot.specs.Circuits.{Circuit, amp}
+use Rattle.qm_denot.specs.Protocols.{copying, uncopying, moving, reaching}
 use Rattle.qm_denot.specs.Stores.{IsReducedForm}
 use Rattle.qm_denot.proofs.Unique.{one_form}
 use Rattle.qm_denot.proofs.Listed.{shows}
 use Rattle.qm_instr.specs.Programs.{Programs}
-use Rattle.qm_proto.specs.WorkedMessages.{q, e, f}
-use Rattle.qm_proto.specs.WorkedRun.{copy_programs, copy_schedule, WorkedCopy, Leaves, IsOne, WorkedRun, WorkedIdeal}
-use Rattle.qm_proto.specs.Model.State.{is_lane}
-use Rattle.qm_proto.specs.Model.Rows.{Fits}
+use Rattle.qm_instr.specs.Lanes.{is_lane}
+use Rattle.qm_proto.specs.WorkedMessages.{q, e, f, t}
+use Rattle.qm_proto.specs.WorkedPrograms.{copy_programs, uncopy_programs, move_programs, reach_programs, bit_programs}
+use Rattle.qm_proto.specs.WorkedRun.{copy_schedule, uncopy_schedule, move_schedule, reach_schedule, bit_schedule, bit_letters, e_next, f_next, WorkedCopy, Leaves, IsOne, WorkedRun, WorkedIdeal}
+use Rattle.qm_proto.specs.Model.State.{bit_of}
+use Rattle.qm_proto.specs.declared.Check.TheVariants.{Fits}
 use Rattle.qm_proto.specs.Model.Runs.{has_event, Fails}
 use Rattle.qm_proto.specs.Model.Schedules.{tables_at_start, state_at_start, replay, IsMeetingFrom, AllEnded, RendezvousEnds}
 use Rattle.qm_proto.specs.Model.Ideal.{ideal_replay, has_instr}
@@ -96,22 +99,62 @@ copy_by_zero =
       meet = meets false;
     }
 
+-- each message by its four outcomes
+uncopy : (m n : Bool) → Leaves (uncopy_programs m n) uncopy_schedule (copying q e f m ++ uncopying q f n)
+unfolding replay is_lane is_wire
+uncopy false false = leaves _ _ _ refl refl refl
+uncopy false true = leaves _ _ _ refl refl refl
+uncopy true false = leaves _ _ _ refl refl refl
+uncopy true true = leaves _ _ _ refl refl refl
+
+move : (m n : Bool) → Leaves (move_programs m n) move_schedule (moving q e f m n)
+unfolding replay is_lane is_wire
+move false false = leaves _ _ _ refl refl refl
+move false true = leaves _ _ _ refl refl refl
+move true false = leaves _ _ _ refl refl refl
+move true true = leaves _ _ _ refl refl refl
+
+reach : (m n : Bool) → Leaves (reach_programs m n) reach_schedule (reaching q e f t m n ++ copying q e_next f_next false)
+unfolding replay is_lane is_wire
+reach false false = leaves _ _ _ refl refl refl
+reach false true = leaves _ _ _ refl refl refl
+reach true false = leaves _ _ _ refl refl refl
+reach true true = leaves _ _ _ refl refl refl
+
+bits : (m : Bool) → Leaves (bit_programs m) bit_schedule (bit_letters m)
+unfolding replay is_lane is_wire
+bits false = leaves _ _ _ refl refl refl
+bits true = leaves _ _ _ refl refl refl
+
+bit_received : (m : Bool) → bit_of (replay (bit_programs m) bit_schedule).tables 1 5 ≡ m
+unfolding replay is_lane
+bit_received false = refl
+bit_received true = refl
+
+bits_added : (m : Bool) → bit_of (replay (bit_programs m) bit_schedule).tables 1 1 ≡ not m
+unfolding replay is_lane
+bits_added false = refl
+bits_added true = refl
+
 pub worked_run : WorkedRun
 unfolding replay is_lane is_wire
 worked_run =
     record {
       copy_by_one = copy_by_one;
       copy_by_zero = copy_by_zero;
-      uncopy = leaves _ _ _ refl refl refl;
-      move = leaves _ _ _ refl refl refl;
-      reach = leaves _ _ _ refl refl refl;
-      bits = leaves _ _ _ refl refl refl;
-      bit_received = refl;
-      bits_added = refl;
-      stuck = record { left = (0, lit< tt, refl); none = false_below _ 2 refl };
+      uncopy = uncopy;
+      move = move;
+      reach = reach;
+      bits = bits;
+      bit_received = bit_received;
+      bits_added = bits_added;
       roomy = leaves _ _ _ refl refl refl;
-      waiting = record { left = (0, lit< tt, refl); none = false_below _ 2 refl };
     }
+
+ideal_bits : (m : Bool) → IsOne (bit_programs m) bit_schedule (bit_letters m)
+unfolding ideal_replay is_lane is_wire
+ideal_bits false = is_one _ _ _ refl refl refl
+ideal_bits true = is_one _ _ _ refl refl refl
 
 pub worked_ideal : WorkedIdeal
 unfolding ideal_replay is_lane is_wire
@@ -121,7 +164,7 @@ worked_ideal =
       uncopy = is_one _ _ _ refl refl refl;
       move = is_one _ _ _ refl refl refl;
       reach = is_one _ _ _ refl refl refl;
-      bits = is_one _ _ _ refl refl refl;
+      bits = ideal_bits;
       crossed = is_one _ _ _ refl refl refl;
       waiting = one_run _ [] refl;
       early = refl;

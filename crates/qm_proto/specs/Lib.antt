@@ -2,4 +2,6 @@ pub mod Laws
 pub mod WorkedMessages
 pub mod Events
 pub mod Model
+pub mod WorkedPrograms
 pub mod WorkedRun
+pub mod WorkedWaits

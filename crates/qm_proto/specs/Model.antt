@@ -8,4 +8,4 @@ pub mod Places
 pub mod May
 pub mod Tidy
 pub mod Ideal
-pub mod OneRank
+pub mod Orders

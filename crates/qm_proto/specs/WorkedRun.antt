@@ -1,40 +1,25 @@
 -- Runs that were worked out by hand, of the machine and of the ideal machine
-use Rattle.std.specs.Prelude.{◌≡◌, ℕ, Bool, true, false, List, [], ◌∷◌, ◌++◌, Some, map}
+use Rattle.std.specs.Prelude.{◌≡◌, ℕ, Bool, true, false, not, List, [], ◌∷◌, ◌++◌, Some, map}
 use Rattle.qm_zomega.specs.Numbers.{Number, zero_number, one_number}
 use Rattle.qm_denot.specs.declared.Wire.{Wire}
+use Rattle.qm_denot.specs.declared.Letter.{Letter}
 use Rattle.qm_denot.specs.declared.Letter.TheVariants.{Flip, Had, Cx, Pair, Keep, Take, Rename}
 use Rattle.qm_denot.specs.Circuits.{Circuit}
-use Rattle.qm_denot.specs.Protocols.{copying, uncopying, moving, reaching}
+use Rattle.qm_denot.specs.Protocols.{letter_if, copying, uncopying, moving, reaching}
 use Rattle.qm_denot.specs.WorkedCircuits.{Shows}
-use Rattle.qm_instr.specs.declared.OneGate.TheVariants as one
-use Rattle.qm_instr.specs.declared.Gate.TheVariants as gate
 use Rattle.qm_instr.specs.declared.Instr.{Instr}
-use Rattle.qm_instr.specs.declared.Instr.TheVariants as instr
-use Rattle.qm_instr.specs.Programs.{Programs, RankProgram}
+use Rattle.qm_instr.specs.Programs.{Programs}
 use Rattle.qm_proto.specs.Events.{events_in}
 use Rattle.qm_proto.specs.WorkedMessages.{q, e, f, t}
+use Rattle.qm_proto.specs.WorkedPrograms.{copy_programs, uncopy_programs, move_programs, reach_programs, bit_programs, crossed_programs, waiting_programs}
 use Rattle.qm_proto.specs.Model.State.{Tables, bit_of}
-use Rattle.qm_proto.specs.Model.Rows.{Row, rows}
+use Rattle.qm_proto.specs.declared.Row.{Row}
+use Rattle.qm_proto.specs.Model.Rows.{rows}
 use Rattle.qm_proto.specs.Model.Runs.{halves}
 use Rattle.qm_proto.specs.Model.Ideal.{ideal_at_start, ideal_replay, IsOneRun, AllDone, has_instr, width}
-use Rattle.qm_proto.specs.Model.Schedules.{tables_at_start, replay, AllEnded, IsComplete, IsStuck, IsFirst, IsMeetingFrom, RendezvousEnds, protocol_total}
+use Rattle.qm_proto.specs.Model.Schedules.{tables_at_start, replay, AllEnded, IsComplete, IsFirst, IsMeetingFrom, RendezvousEnds, protocol_total}
 
--- a rank with these sizes, instructions and tapes
-abbrev rank : ℕ → ℕ → List Instr → List Bool → List Bool → RankProgram
-rank qubits buffer is own protocol = record { qubits = qubits; buffer = buffer; instructions = is; own = own; protocol = protocol }
-
--- the programs of two ranks
-abbrev both : RankProgram → RankProgram → Programs
-both x y = record { version = 1; ranks = x ∷ y ∷ [] }
-
--- rank 0 makes a qubit, turns it by `h`, and copies it to rank 1 with the outcome m
-abbrev pub copy_programs : Bool → Programs
-copy_programs m =
-    both
-    (rank 1 1 (instr.Alloc 0 ∷ instr.Do (gate.One one.H 0) ∷ instr.CopyTo 0 1 7 ∷ []) [] (m ∷ []))
-    (rank 1 1 (instr.CopyFrom 0 0 7 ∷ []) [] [])
-
--- the schedule that always takes the lowest rank that is enabled
+-- the schedule of the copy that always takes the lowest rank that is enabled
 abbrev pub copy_schedule : List ℕ
 copy_schedule = 0 ∷ 0 ∷ 0 ∷ 0 ∷ 0 ∷ 1 ∷ 1 ∷ []
 
@@ -69,87 +54,63 @@ pub record IsOne (p : Programs) (ranks : List ℕ) (letters : Circuit) : Type 0 
   pub done : AllDone p (ideal_replay p ranks).tables
   pub circuit : (ideal_replay p ranks).circuit ≡ letters
 
--- a qubit is copied, and the copy taken back
-abbrev pub uncopy_programs : Programs
-uncopy_programs =
-    both
-    (rank 1 1 (instr.Alloc 0 ∷ instr.CopyTo 0 1 7 ∷ instr.UndoFrom 0 1 8 ∷ []) [] (true ∷ []))
-    (rank 1 1 (instr.CopyFrom 0 0 7 ∷ instr.UndoTo 0 0 8 ∷ []) [] (true ∷ []))
+abbrev pub uncopy_schedule : List ℕ
+uncopy_schedule = 0 ∷ 0 ∷ 0 ∷ 0 ∷ 1 ∷ 1 ∷ 1 ∷ 1 ∷ 0 ∷ 0 ∷ []
 
--- a qubit is moved, with both outcomes one
-abbrev pub move_programs : Programs
-move_programs =
-    both (rank 1 1 (instr.Alloc 0 ∷ instr.MoveTo 0 1 7 ∷ []) [] (true ∷ true ∷ [])) (rank 1 1 (instr.MoveFrom 0 0 7 ∷ []) [] [])
+abbrev pub move_schedule : List ℕ
+move_schedule = 0 ∷ 0 ∷ 0 ∷ 0 ∷ 0 ∷ 0 ∷ 1 ∷ 1 ∷ 1 ∷ []
 
--- a qubit of rank 0 controls a qubit of rank 1, with both outcomes one
-abbrev pub reach_programs : Programs
-reach_programs =
-    both
-    (rank 1 1 (instr.Alloc 0 ∷ instr.ReachTo 0 1 9 ∷ []) [] (true ∷ []))
-    (rank 1 1 (instr.Alloc 0 ∷ instr.ReachFrom 0 0 9 ∷ []) [] (true ∷ []))
-
--- the gate `x` on slot 0
-abbrev exchange : Instr
-exchange = instr.Do (gate.One one.X 0)
-
--- rank 0 measures a qubit and gives it up, and sends the outcome to rank 1, where a gate depends on it
-abbrev pub bit_programs : Programs
-bit_programs =
-    both
-    (rank 1 1 (instr.Alloc 0 ∷ exchange ∷ instr.Measure 0 0 ∷ exchange ∷ instr.Free 0 ∷ instr.SendBit 0 1 2 ∷ []) (true ∷ []) [])
-    (rank 1 1 (instr.RecvBit 5 0 2 ∷ instr.Alloc 0 ∷ instr.When 5 (gate.One one.X 0) ∷ instr.Set 1 true ∷ instr.Xor 1 5 ∷ []) [] [])
+-- the sender waits until the receiver, whose buffer has room for one half, stands at its receive
+abbrev pub reach_schedule : List ℕ
+reach_schedule = 0 ∷ 1 ∷ 0 ∷ 0 ∷ 0 ∷ 1 ∷ 1 ∷ 1 ∷ 1 ∷ 1 ∷ 0 ∷ 0 ∷ 0 ∷ 0 ∷ 0 ∷ 1 ∷ 1 ∷ []
 
 abbrev pub bit_schedule : List ℕ
-bit_schedule = 0 ∷ 0 ∷ 0 ∷ 0 ∷ 0 ∷ 0 ∷ 1 ∷ 1 ∷ 1 ∷ 1 ∷ 1 ∷ []
+bit_schedule = 0 ∷ 0 ∷ 0 ∷ 0 ∷ 0 ∷ 1 ∷ 1 ∷ 1 ∷ 1 ∷ 1 ∷ []
 
--- each rank copies a qubit to the other before it receives
-abbrev pub crossed_programs : ℕ → Programs
-crossed_programs buffer =
-    both
-    (rank 2 buffer (instr.Alloc 0 ∷ instr.CopyTo 0 1 1 ∷ instr.CopyFrom 1 1 1 ∷ []) [] (false ∷ []))
-    (rank 2 buffer (instr.Alloc 0 ∷ instr.CopyTo 0 0 1 ∷ instr.CopyFrom 1 0 1 ∷ []) [] (true ∷ []))
+abbrev pub crossed_schedule : List ℕ
+crossed_schedule = 0 ∷ 0 ∷ 0 ∷ 0 ∷ 1 ∷ 1 ∷ 1 ∷ 1 ∷ 0 ∷ 0 ∷ 1 ∷ 1 ∷ []
 
--- each rank first receives what the other sends afterwards
-abbrev pub waiting_programs : Programs
-waiting_programs =
-    both
-    (rank 1 1 (instr.CopyFrom 0 1 1 ∷ instr.CopyTo 0 1 1 ∷ []) [] (false ∷ []))
-    (rank 1 1 (instr.CopyFrom 0 0 1 ∷ instr.CopyTo 0 0 1 ∷ []) [] (false ∷ []))
-
--- the halves of the pair that rank 1 made
+-- the halves of the pair that rank 1 made, and those of the second pair that rank 0 made
 abbrev pub e_back : Wire
 e_back = record e { rank = 1 }
 
 abbrev pub f_back : Wire
 f_back = record f { rank = 1 }
 
+abbrev pub e_next : Wire
+e_next = record e { made = 2 }
+
+abbrev pub f_next : Wire
+f_next = record f { made = 2 }
+
+-- the letters of the bits' programs: a measurement, two gates where the outcome is one, and a qubit given up
+abbrev pub bit_letters : Bool → List Letter
+bit_letters m = (Keep q m ∷ letter_if m (Flip q)) ++ Take q false ∷ letter_if m (Flip t)
+
 pub record WorkedRun : Type 0 where
   -- with the outcome one, and with the outcome zero, where the receiver corrects nothing
   pub copy_by_one : WorkedCopy true (Had q ∷ Pair e f ∷ Cx q e ∷ Take e true ∷ Flip f ∷ [])
   pub copy_by_zero : WorkedCopy false (Had q ∷ Pair e f ∷ Cx q e ∷ Take e false ∷ [])
-  -- the other messages' events do the letters of their laws
-  pub uncopy : Leaves uncopy_programs (0 ∷ 0 ∷ 0 ∷ 0 ∷ 1 ∷ 1 ∷ 1 ∷ 1 ∷ 0 ∷ 0 ∷ []) (copying q e f true ++ uncopying q f true)
-  pub move : Leaves move_programs (0 ∷ 0 ∷ 0 ∷ 0 ∷ 0 ∷ 0 ∷ 1 ∷ 1 ∷ 1 ∷ []) (moving q e f true true)
-  -- the sender waits until the receiver, whose buffer has room for one half, stands at its receive
-  pub reach : Leaves reach_programs (0 ∷ 1 ∷ 0 ∷ 0 ∷ 0 ∷ 1 ∷ 1 ∷ 1 ∷ 1 ∷ 1 ∷ 0 ∷ 0 ∷ []) (reaching q e f t true true)
-  pub bits : Leaves bit_programs bit_schedule (Flip q ∷ Keep q true ∷ Flip q ∷ Take q false ∷ Flip t ∷ [])
-  pub bit_received : bit_of (replay bit_programs bit_schedule).tables 1 5 ≡ true
-  pub bits_added : bit_of (replay bit_programs bit_schedule).tables 1 1 ≡ false
-  -- with room for one half neither pair may be prepared, and with room for two both may
-  pub stuck : IsStuck (crossed_programs 1) (replay (crossed_programs 1) (0 ∷ 1 ∷ [])).tables
-  pub roomy : Leaves (crossed_programs 2) (0 ∷ 0 ∷ 0 ∷ 0 ∷ 1 ∷ 1 ∷ 1 ∷ 1 ∷ 0 ∷ 0 ∷ 1 ∷ 1 ∷ [])
-      (copying q e f false ++ copying t e_back f_back true)
-  -- ranks that wait for each other are stuck at once
-  pub waiting : IsStuck waiting_programs (tables_at_start waiting_programs)
+  -- the other messages' events do the letters of their laws, whatever the two outcomes
+  pub uncopy : (m n : Bool) → Leaves (uncopy_programs m n) uncopy_schedule (copying q e f m ++ uncopying q f n)
+  pub move : (m n : Bool) → Leaves (move_programs m n) move_schedule (moving q e f m n)
+  -- a reach counts one wire, so the copy after it has the next number
+  pub reach : (m n : Bool) → Leaves (reach_programs m n) reach_schedule (reaching q e f t m n ++ copying q e_next f_next false)
+  pub bits : (m : Bool) → Leaves (bit_programs m) bit_schedule (bit_letters m)
+  pub bit_received : (m : Bool) → bit_of (replay (bit_programs m) bit_schedule).tables 1 5 ≡ m
+  pub bits_added : (m : Bool) → bit_of (replay (bit_programs m) bit_schedule).tables 1 1 ≡ not m
+  -- with room for two halves both pairs may be prepared
+  pub roomy : Leaves (crossed_programs 2 2) crossed_schedule (copying q e f false ++ copying t e_back f_back true)
 
 -- the ideal runs of the same programs
 pub record WorkedIdeal : Type 0 where
   pub copy : IsOne (copy_programs true) (0 ∷ 0 ∷ 0 ∷ 1 ∷ []) (Had q ∷ Cx q f ∷ [])
-  pub uncopy : IsOne uncopy_programs (0 ∷ 0 ∷ 1 ∷ 1 ∷ 0 ∷ []) (Cx q f ∷ Cx q f ∷ Take f false ∷ [])
-  pub move : IsOne move_programs (0 ∷ 0 ∷ 1 ∷ []) (Rename q f ∷ [])
-  pub reach : IsOne reach_programs (0 ∷ 1 ∷ 1 ∷ 0 ∷ []) (Cx q t ∷ [])
-  pub bits : IsOne bit_programs bit_schedule (Flip q ∷ Keep q true ∷ Flip q ∷ Take q false ∷ Flip t ∷ [])
-  pub crossed : IsOne (crossed_programs 1) (0 ∷ 0 ∷ 1 ∷ 1 ∷ 0 ∷ 1 ∷ []) (Cx q f ∷ Cx t f_back ∷ [])
+  pub uncopy : IsOne (uncopy_programs true false) (0 ∷ 0 ∷ 1 ∷ 1 ∷ 0 ∷ []) (Cx q f ∷ Cx q f ∷ Take f false ∷ [])
+  pub move : IsOne (move_programs true false) (0 ∷ 0 ∷ 1 ∷ []) (Rename q f ∷ [])
+  -- a reach counts one wire here too
+  pub reach : IsOne (reach_programs true false) (0 ∷ 1 ∷ 1 ∷ 0 ∷ 0 ∷ 1 ∷ []) (Cx q t ∷ Cx q f_next ∷ [])
+  pub bits : (m : Bool) → IsOne (bit_programs m) bit_schedule (bit_letters m)
+  pub crossed : IsOne (crossed_programs 1 1) (0 ∷ 0 ∷ 1 ∷ 1 ∷ 0 ∷ 1 ∷ []) (Cx q f ∷ Cx t f_back ∷ [])
   -- ranks that wait for each other end at once, with instructions left
   pub waiting : IsOneRun waiting_programs []
   pub early : has_instr waiting_programs (ideal_at_start waiting_programs).tables 0 ≡ true

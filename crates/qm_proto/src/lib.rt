@@ -8,7 +8,8 @@ pub mod laws;
 mod worked;
 
 pub use events::next_event;
-use qm_denot::Wire;
+pub use qm_denot::Parcel;
+use qm_denot::{Letter, Wire};
 use qm_instr::Lane;
 
 /// One event of a run: the steps in which an instruction is done.
@@ -57,13 +58,6 @@ pub enum Cause {
     Stuck,
 }
 
-/// A parcel of a lane: the wire that it carries, if it does, and its two bits, once it has them.
-#[derive(Clone, Copy, PartialEq, Eq, Debug)]
-pub struct Parcel {
-    pub wire: Option<Wire>,
-    pub bits: Option<(bool, bool)>,
-}
-
 /// What an event waits for.
 #[derive(Clone, Copy, PartialEq, Eq, Debug)]
 pub enum Rule {
@@ -75,4 +69,69 @@ pub enum Rule {
     Engaged { lane: Lane },
     /// The lane's front parcel has its bits.
     Filled { lane: Lane },
+}
+
+/// At most three things, in their order.
+#[derive(Clone, Copy)]
+pub enum Few<T> {
+    Empty,
+    One(T),
+    Two(T, T),
+    Three(T, T, T),
+}
+
+/// One act of a rank: the steps of which events are made.
+#[derive(Clone, Copy)]
+pub enum Act {
+    /// A fresh wire goes into slot `q`.
+    Fresh { q: u8 },
+    /// An EPR pair: the near half here, the far half at rank `to`.
+    Twin { to: u16 },
+    /// A letter that moves no wire.
+    Apply { letter: Letter },
+    /// The wire in slot `q` is measured away with outcome `m`.
+    SlotOut { q: u8, m: bool },
+    /// The near half made last is measured away with outcome `m`.
+    NearOut { m: bool },
+    /// The far half `f` is measured away with outcome `m`.
+    FarOut { f: Wire, m: bool },
+    /// The far half `f` goes into slot `q`, and is no half any more.
+    Settle { f: Wire, q: u8 },
+    /// A parcel goes to the end of a lane.
+    Posts { lane: Lane, parcel: Parcel },
+    /// The last parcel of a lane gets its bits.
+    Fills { lane: Lane, bits: (bool, bool) },
+    /// The front parcel of a lane is taken.
+    Receives { lane: Lane },
+    /// An outcome of the own tape is used.
+    OwnUsed,
+    /// An outcome of the protocol tape is used.
+    ProtocolUsed,
+    /// The first outcome of a move is kept for its end.
+    FirstKept { m: bool },
+    /// Bit `b` becomes `v`.
+    BitSet { b: u8, v: bool },
+}
+
+/// A test of an event: where it fails, the event is refused.
+#[derive(Clone, Copy)]
+pub enum Check {
+    /// `w` can be `m`.
+    Possible { w: Wire, m: bool },
+    /// `w` is zero.
+    Zero { w: Wire },
+    /// `w` equals `v`.
+    Equal { w: Wire, v: Wire },
+    /// The numbers after a `Had` of `w` fit.
+    Fits { w: Wire },
+}
+
+/// A line of the table of the events: the event, what it waits for, its tests in the order in which they count, and its acts in their
+/// order.
+#[derive(Clone, Copy)]
+pub struct Row {
+    pub event: Event,
+    pub rule: Rule,
+    pub checks: Few<Check>,
+    pub acts: Few<Act>,
 }

@@ -2,6 +2,7 @@
 
 ghost use Rattle.qm_proto.specs.WorkedMessages.{WorkedMessages};
 ghost use Rattle.qm_proto.specs.WorkedRun.{EventsAgree, WorkedIdeal, WorkedRun};
+ghost use Rattle.qm_proto.specs.WorkedWaits.{WorkedRefusals, WorkedWaits};
 
 /// Both sides of each law have the amplitudes that were worked out by hand, and a move with its corrections exchanged has others.
 fn worked_messages()
@@ -18,6 +19,16 @@ fn worked_ideal()
     ensures { WorkedIdeal }
 {}
 
+/// Ranks wait, hold halves and get stuck where it was worked out by hand.
+fn worked_waits()
+    ensures { WorkedWaits }
+{}
+
+/// Events are refused where it was worked out by hand, each for its cause.
+fn worked_refusals()
+    ensures { WorkedRefusals }
+{}
+
 /// The model's table has the events that `next_event` tells.
 fn events_agree()
     ensures { EventsAgree }
@@ -25,7 +36,9 @@ fn events_agree()
 
 #[cfg(test)]
 mod tests {
-    use super::{events_agree, worked_ideal, worked_messages, worked_run};
+    use super::{
+        events_agree, worked_ideal, worked_messages, worked_refusals, worked_run, worked_waits,
+    };
     use crate::laws::{copy_law, move_law, reach_law, uncopy_law};
 
     #[test]
@@ -42,5 +55,11 @@ mod tests {
         worked_run();
         worked_ideal();
         events_agree();
+    }
+
+    #[test]
+    fn model_agrees_with_the_worked_waits_and_refusals() {
+        worked_waits();
+        worked_refusals();
     }
 }

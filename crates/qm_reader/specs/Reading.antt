@@ -1,11 +1,10 @@
 -- What a text says: programs, or where and why it is refused
 use Rattle.std.specs.Prelude.{◌≡◌, ℕ, ◌≤◌, ◌==◌, Bool, true, false, ◌&&◌, ◌||◌, if◌then◌else◌, List, [], ◌∷◌, ◌++◌, length, Option, Some, None, unwrap_or}
-use Rattle.qm_instr.specs.Lanes.{lane_sent, lane_received}
+use Rattle.qm_instr.specs.Lanes.{lane_sent, lane_received, is_on}
 use Rattle.qm_instr.specs.Programs.{Programs}
 use Rattle.qm_check.specs.declared.Fault.{Fault}
 use Rattle.qm_check.specs.declared.Fault.TheVariants as fault
 use Rattle.qm_check.specs.Checks.{IsReady, IsFirstFault}
-use Rattle.qm_check.specs.Messages.{is_lane}
 use Rattle.qm_reader.specs.declared.Refusal.{Refusal}
 use Rattle.qm_reader.specs.declared.Refusal.TheVariants.{Unexpected, RanksNotBuilt}
 use Rattle.qm_reader.specs.declared.marks.Part.{Part}
@@ -52,7 +51,7 @@ is_about (fault.SameSlot rank at) (Step r k i) = r == rank && k == at
 is_about (fault.SlotEmpty rank at) (Step r k i) = r == rank && k == at
 is_about (fault.SlotFull rank at) (Step r k i) = r == rank && k == at
 is_about (fault.UnmatchedLane lane sends receives) (Step r k i) =
-    is_lane (lane_sent r i) lane || is_lane (lane_received r i) lane
+    is_on (lane_sent r i) lane || is_on (lane_received r i) lane
 is_about (fault.TapeLength rank own needs has) (Tape r) = r == rank
 is_about _ _ = false
 

@@ -1,6 +1,6 @@
 //! The lines of the words that a fault may be about.
 ghost use Rattle.std.specs.Prelude.{◌≡◌, option_map, find};
-ghost use Rattle.qm_check.specs.Messages.{is_lane};
+ghost use Rattle.qm_instr.specs.Lanes.{is_on};
 ghost use Rattle.qm_reader.specs.Reading.{is_about};
 
 use qm_check::Fault;
@@ -57,15 +57,15 @@ fn is_about_step(fault: Fault, rank: u16, at: u32, instr: Instr) -> bool
         | Fault::SlotEmpty { rank: r, at: k }
         | Fault::SlotFull { rank: r, at: k } => r == rank && k == at,
         Fault::UnmatchedLane { lane, .. } => {
-            is_lane(send_lane(rank, instr), lane) || is_lane(receive_lane(rank, instr), lane)
+            is_on(send_lane(rank, instr), lane) || is_on(receive_lane(rank, instr), lane)
         }
         _ => false,
     }
 }
 
 /// Whether that is the lane.
-fn is_lane(found: Option<Lane>, lane: Lane) -> bool
-    ensures { result ≡ is_lane found lane }
+fn is_on(found: Option<Lane>, lane: Lane) -> bool
+    ensures { result ≡ is_on found lane }
 {
     found == Some(lane)
 }

@@ -1,11 +1,7 @@
 -- What a whole call says: the cause of its status, and the status and the bytes that were due
-use Rattle.std.proofs.Common.{◌≡◌, ◌≢◌, ℕ, ◌≤◌, ◌⊎◌, inl, inr, false, List, [], ◌∷◌, ◌++◌, length, get_or, map, Option, Some, None, Result, Ok, Err, IfOk, refl, sym, ap, subst, ◌∙◌, arith, codes, length-append}
+use Rattle.std.proofs.Common.{◌≡◌, ◌≢◌, ℕ, ◌≤◌, ◌⊎◌, inl, inr, List, ◌++◌, length, Option, Some, None, Result, Ok, Err, IfOk, refl, sym, ap, subst, ◌∙◌, arith, codes, length-append}
 use Rattle.std.proofs.lemmas.List.{append-nil}
-use Rattle.std.specs.Str.{bytes_eq}
-use Rattle.std.specs.String.{string_bytes}
 use Rattle.std.specs.declared.alloc.AllocError.{AllocError}
-use Rattle.std.specs.declared.alloc.Global.{Global}
-use Rattle.std.specs.declared.string.String.{String}
 use Rattle.qm_denot.specs.Stores.{Store}
 use Rattle.qm_io.specs.Ends.{SinkView, SourceView, Rose, Took, IsSpent, led_by}
 use Rattle.qm_io.specs.Intake.{GaveAll, GaveMore, FailedOnce}
@@ -13,18 +9,14 @@ use Rattle.qm_tool.specs.declared.answer.Answer.{Answer}
 use Rattle.qm_tool.specs.declared.answer.Answer.TheVariants as answer
 use Rattle.qm_tool.specs.declared.status.Status.{Status}
 use Rattle.qm_tool.specs.declared.status.Status.TheVariants as status
-use Rattle.qm_tool.specs.Due.{is_plain, EndsWith, IsOneCircuit, StopsWith, RefusedWith, DueOf, Due, NoCommand, TooMuch, Whole}
-use Rattle.qm_tool.specs.Calls.{Comes, Unasked, Failed, More, Text, Ends, Whole as Written, Broken, Ran, Starved, Done, Wrote}
+use Rattle.qm_tool.specs.declared.command.Command.{Command}
+use Rattle.qm_tool.specs.Commands.{command_of}
+use Rattle.qm_tool.specs.Due.{IsSure, EndsWith, IsOneCircuit, StopsWith, RefusedWith, DueOf, Due, NoCommand, TooMuch, Whole}
+use Rattle.qm_tool.specs.Calls.{Comes, Unasked, Failed, More, Text, Ends, Whole as Written, Broken, Ran, Starved, Done, Wrote, Under}
 use Rattle.qm_tool.specs.Answers.{status_of, text_of, AnswersSource, Concludes}
 use Rattle.qm_tool.proofs.AnswerLaws.{Due-one}
+use Rattle.qm_tool.proofs.Completing.{Due-ok}
 use Rattle.qm_tool.proofs.OneCircuits.{EndsWith-one_circuit}
-
--- ---- the words
--- the one word of a list of one
-pub is_plain-one : (ws : List (String Global)) (w : String Global) → length ws ≡ 1 → w ≡ get_or ws 0 w → is_plain (map string_bytes ws) ≡ bytes_eq (string_bytes w) (codes "plain")
-is_plain-one [] w l e = absurd (omega arith)
-is_plain-one (v ∷ []) w l e = ap (λ x. bytes_eq (string_bytes x) (codes "plain")) (sym e)
-is_plain-one (v ∷ u ∷ us) w l e = absurd (omega arith)
 
 -- ---- a source that tells its bytes
 -- what it gave, to its end, is all that it had
@@ -38,43 +30,46 @@ longer_than text got None e = cc
 longer_than text got (Some r) e = let k : text ≡ got ++ r = cc in omega (arith, ap length k, length-append got r)
 
 -- where what was written is the state text of an end, it is that of one circuit
-pub Wrote-one_circuit : (from from' : SourceView) (to to' : SinkView) → Wrote EndsWith from from' to to' → Wrote IsOneCircuit from from' to to'
-Wrote-one_circuit from from' to to' w =
-    record { text = w.text; bytes = w.bytes; gave = w.gave; says = EndsWith-one_circuit w.text w.bytes w.says; took = w.took }
+pub Wrote-one_circuit : (words : List (List ℕ)) (from from' : SourceView) (to to' : SinkView) → Wrote (Under words EndsWith) from from' to to'
+    → Wrote (Under words IsOneCircuit) from from' to to'
+Wrote-one_circuit words from from' to to' w =
+    let u = w.says in
+    let one = EndsWith-one_circuit u.command w.text w.bytes u.says in
+    record { text = w.text; bytes = w.bytes; gave = w.gave; says = record { command = u.command; reads = u.reads; says = one }; took = w.took }
 
 module _ (words : List (List ℕ)) (from from' : SourceView) where
   -- what is due for what came is due for all that the source had
   Comes-due : (s : Status) (bytes text : List ℕ) → from.left ≡ Some text → (Rose from.faults from'.faults → ⊥) → Comes words from from' s bytes → Due words text s bytes
   Comes-due s bytes text told sure (Unasked e same) = NoCommand e
-  Comes-due s bytes text told sure (Failed e f) = absurd (sure f.rose)
-  Comes-due s bytes text told sure (More e m) = TooMuch e (omega (arith, m.long, longer_than text m.text from'.left (sym told ∙ m.gave.left)))
-  Comes-due s bytes text told sure (Text t q b e g d) =
+  Comes-due s bytes text told sure (Failed c e f) = absurd (sure f.rose)
+  Comes-due s bytes text told sure (More c e m) = TooMuch c e (omega (arith, m.long, longer_than text m.text from'.left (sym told ∙ m.gave.left)))
+  Comes-due s bytes text told sure (Text c t q b e g d) =
       let all : text ≡ t = all_of_it text t from'.left (sym told ∙ g.gave.left) g.spent in
-      Whole q b e (omega (arith, ap length all, g.short)) (subst (λ (x : List ℕ). DueOf x q b) (sym all) d)
+      Whole c q b e (omega (arith, ap length all, g.short)) (subst (λ (x : List ℕ). DueOf c x q b) (sym all) d)
 
   module _ (to to' : SinkView) where
     -- what each status says of the ends
     abbrev pub Cause : Status → Type 0
-    Cause status.Ok = Wrote EndsWith from from' to to'
-    Cause status.Usage = is_plain words ≡ false
+    Cause status.Ok = Wrote (Under words EndsWith) from from' to to'
+    Cause status.Usage = command_of words ≡ None
     Cause status.ReadFault = FailedOnce from from'
     Cause status.TooLong = GaveMore from from'
     Cause status.Refused = Wrote RefusedWith from from' to to'
-    Cause status.Stopped = Wrote StopsWith from from' to to'
+    Cause status.Stopped = Wrote (Under words StopsWith) from from' to to'
     Cause status.WriteFault = Rose to.faults to'.faults
     Cause status.OutOfMemory = to' ≡ to
 
-    DueOf-cause : (s : Status) (text bytes : List ℕ) → GaveAll from from' text → DueOf text s bytes → Took to to' bytes → Cause s
-    DueOf-cause status.Ok text bytes g d t = record { text = text; bytes = bytes; gave = g; says = d; took = t }
-    DueOf-cause status.Refused text bytes g d t = record { text = text; bytes = bytes; gave = g; says = d; took = t }
-    DueOf-cause status.Stopped text bytes g d t = record { text = text; bytes = bytes; gave = g; says = d; took = t }
-    DueOf-cause s text bytes g d t = absurd d
+    DueOf-cause : (c : Command) (s : Status) (text bytes : List ℕ) → command_of words ≡ Some c → GaveAll from from' text → DueOf c text s bytes → Took to to' bytes → Cause s
+    DueOf-cause c status.Ok text bytes e g d t = record { text = text; bytes = bytes; gave = g; says = record { command = c; reads = e; says = d }; took = t }
+    DueOf-cause c status.Refused text bytes e g d t = record { text = text; bytes = bytes; gave = g; says = d; took = t }
+    DueOf-cause c status.Stopped text bytes e g d t = record { text = text; bytes = bytes; gave = g; says = record { command = c; reads = e; says = d }; took = t }
+    DueOf-cause c s text bytes e g d t = absurd d
 
     Comes-cause : (s : Status) (bytes : List ℕ) → Comes words from from' s bytes → Took to to' bytes → Cause s
     Comes-cause s bytes (Unasked e same) t = e
-    Comes-cause s bytes (Failed e f) t = f
-    Comes-cause s bytes (More e m) t = m
-    Comes-cause s bytes (Text text q b e g d) t = DueOf-cause q text b g d t
+    Comes-cause s bytes (Failed c e f) t = f
+    Comes-cause s bytes (More c e m) t = m
+    Comes-cause s bytes (Text c text q b e g d) t = DueOf-cause c q text b e g d t
 
     Ends-cause : (due s : Status) (bytes : List ℕ) → Comes words from from' due bytes → Ends due bytes to to' s → Cause s
     Ends-cause due s bytes c (Written t) = Comes-cause due bytes c t
@@ -95,6 +90,17 @@ module _ (words : List (List ℕ)) (from from' : SourceView) where
         → r ≢ status.OutOfMemory → Due words text s bytes → (r ≡ s) × Took to to' bytes
     Ran-exact r (Starved e) text s bytes told read wrote memory due = absurd (memory refl)
     Ran-exact r (Done q a) text s bytes told read wrote memory due = Ends-exact a.due q s a.bytes bytes text (Comes-due a.due a.bytes text told read a.comes) due wrote a.ends
+
+    -- ---- a text of which no schedule can stop
+    Ends-ok : (due s : Status) (bytes : List ℕ) → due ≡ status.Ok → (Rose to.faults to'.faults → ⊥) → Ends due bytes to to' s → s ≡ status.Ok
+    Ends-ok due s bytes e sure (Written t) = e
+    Ends-ok due s bytes e sure (Broken k) = absurd (sure k.rose)
+
+    pub Ran-complete : (r : Status) → Ran words from from' to to' r → (text : List ℕ) → from.left ≡ Some text → (Rose from.faults from'.faults → ⊥) → (Rose to.faults to'.faults → ⊥)
+        → command_of words ≢ None → length text ≤ 1048576 → IsSure text → (r ≡ status.Ok) ⊎ (r ≡ status.OutOfMemory)
+    Ran-complete r (Starved e) text told read wrote is short sure = inr refl
+    Ran-complete r (Done q a) text told read wrote is short sure =
+        inl (Ends-ok a.due q a.bytes (Due-ok words a.due text a.bytes is short sure (Comes-due a.due a.bytes text told read a.comes)) wrote a.ends)
 
     -- ---- by the answer
     pub Concludes-ran : {A : Type 0} (store : A → Store) (r : Result (Answer A) AllocError) (s : Status) → IfOk r (AnswersSource store words from from') → Concludes store to to' r s → Ran words from from' to to' s

@@ -19,9 +19,9 @@ pub rank_slots-next : (old full : List FullSlot) (r q : ℕ) (slots : ℕ → Op
 rank_slots-next old full r q slots content before read =
     rw (read, add-one q) (ap (λ (ss : List FullSlot). ss ++ slot_if r q (slots q)) before ∙ append_assoc old (rank_slots r q slots) (slot_if r q (slots q)))
 
-pub none_where_not_some : (o : Option Wire) → ((w : Wire) → o ≡ Some w → ⊥) → o ≡ None
+pub none_where_not_some : {T : Type 0} (o : Option T) → ((t : T) → o ≡ Some t → ⊥) → o ≡ None
 none_where_not_some None h = refl
-none_where_not_some (Some w) h = absurd (h w refl)
+none_where_not_some (Some t) h = absurd (h t refl)
 
 -- ---- different wires
 abbrev wire_in : FullSlot → Wire

@@ -1,6 +1,8 @@
+pub mod CommandLemmas
+pub mod WorkedWords
 pub mod OneCircuits
-pub mod ReadPrograms
-pub mod PlayLemmas
+pub mod Capacities
+pub mod Completing
 pub mod BitsLemmas
 pub mod FullSlotLaws
 pub mod AnswerLaws

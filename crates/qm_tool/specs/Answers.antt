@@ -1,13 +1,16 @@
 -- What a command answers: its status, its text, what must hold before it is written, and what it is due for
-use Rattle.std.specs.Prelude.{◌≡◌, ℕ, Bool, List, length, codes, Result, Ok, Err, Vec}
+use Rattle.std.specs.Prelude.{◌≡◌, ℕ, Bool, List, Some, length, codes, Result, Ok, Err, Vec}
 use Rattle.std.specs.declared.alloc.Global.{Global}
 use Rattle.std.specs.declared.alloc.AllocError.{AllocError}
 use Rattle.qm_io.specs.Ends.{SinkView, SourceView}
 use Rattle.qm_denot.specs.Stores.{Store, StandsFor}
-use Rattle.qm_instr.specs.Programs.{Programs}
-use Rattle.qm_proto.specs.Model.Schedules.{replay, AllEnded, IsFirst}
+use Rattle.qm_instr.specs.Programs.{Programs, IsInRange}
+use Rattle.qm_proto.specs.Model.Schedules.{AllEnded}
+use Rattle.qm_ranks.specs.Blocks.{stopped_line}
+use Rattle.qm_ranks.specs.Dues.{HasPlayed}
 use Rattle.qm_machine.specs.declared.Halt.{Halt}
 use Rattle.qm_machine.specs.Keeps.{MachineView, state_of}
+use Rattle.qm_tool.specs.declared.command.Command.{Command}
 use Rattle.qm_tool.specs.declared.answer.Answer.{Answer}
 use Rattle.qm_tool.specs.declared.answer.Answer.TheVariants as answer
 use Rattle.qm_tool.specs.declared.full_slot.FullSlot.{FullSlot}
@@ -16,9 +19,9 @@ use Rattle.qm_tool.specs.declared.status.Status.{Status}
 use Rattle.qm_tool.specs.declared.status.Status.TheVariants as status
 use Rattle.qm_tool.specs.Branches.{IsEmpty, HasRoom, AreLive}
 use Rattle.qm_tool.specs.StateText.{full_slots, state_lines}
-use Rattle.qm_tool.specs.Due.{DueOf, StopsAt, refusal_line, stopped_line}
+use Rattle.qm_tool.specs.Due.{DueOf, refusal_line}
+use Rattle.qm_tool.specs.Commands.{order_of}
 use Rattle.qm_tool.specs.Calls.{Comes, Ends}
-use Rattle.qm_tool.specs.Plays.{PlaysFirst}
 
 -- the classical bits of a machine's ranks
 abbrev pub bits_in : {A : Type 0} → MachineView A → ℕ → List Bool
@@ -55,14 +58,25 @@ MayPut store (answer.Refused refusal) = Unit {0}
 MayPut store (answer.Stopped halt) = Unit {0}
 MayPut store (answer.Ended machine slots branch) = AreLive (store machine.amps).live slots.items × IsEmpty branch × HasRoom branch (length slots.items)
 
--- the answer is the programs' run: it ended, with its full slots, or it stopped
-pub data IsRun {A : Type 0} (store : A → Store) (p : Programs) : Answer A → Type 0 where
-  RunsOut : (machine : MachineView A) (slots : Vec FullSlot Global) (branch : Branch) → PlaysFirst p machine → StandsFor (store machine.amps) (replay p machine.schedule).circuit → AllEnded p (replay p machine.schedule).tables → slots.items ≡ full_slots p (replay p machine.schedule).tables.slots → IsRun store p (answer.Ended machine slots branch)
-  Stops : (schedule : List ℕ) (halt : Halt) → IsFirst p schedule → halt.turns ≡ length schedule → StopsAt p (replay p schedule) halt.rank halt.cause → IsRun store p (answer.Stopped halt)
+-- the answer has this machine, its full slots, and an empty branch with room for them
+pub data HasMachine {A : Type 0} (m : MachineView A) : Answer A → Type 0 where
+  Has : (slots : Vec FullSlot Global) (branch : Branch) → slots.items ≡ full_slots m.programs (state_of m).tables.slots → HasMachine m (answer.Ended m slots branch)
+
+-- a machine of the programs that was played in the command's order, from its start to its end
+pub record IsPlayed {A : Type 0} (store : A → Store) (c : Command) (p : Programs) (m : MachineView A) : Type 0 where
+  pub programs : m.programs ≡ p
+  pub in_range : IsInRange m.programs
+  pub stands : StandsFor (store m.amps) (state_of m).circuit
+  pub played : HasPlayed (order_of c) m
+
+-- the answer is that of such a machine: all ranks have ended, or it is halted
+pub data IsRun {A : Type 0} (store : A → Store) (c : Command) (p : Programs) : Answer A → Type 0 where
+  RunsOut : (m : MachineView A) (a : Answer A) → IsPlayed store c p m → AllEnded m.programs (state_of m).tables → HasMachine m a → IsRun store c p a
+  Stops : (m : MachineView A) (halt : Halt) → IsPlayed store c p m → m.halted ≡ Some halt → IsRun store c p (answer.Stopped halt)
 
 -- the answer is due for the text
-pub record AnswersText {A : Type 0} (store : A → Store) (text : List ℕ) (a : Answer A) : Type 0 where
-  pub due : DueOf text (status_of a) (text_of store a)
+pub record AnswersText {A : Type 0} (store : A → Store) (c : Command) (text : List ℕ) (a : Answer A) : Type 0 where
+  pub due : DueOf c text (status_of a) (text_of store a)
 
 -- the answer is due for what came from the source
 pub record AnswersSource {A : Type 0} (store : A → Store) (words : List (List ℕ)) (from from' : SourceView) (a : Answer A) : Type 0 where

@@ -1,43 +1,24 @@
 -- The status and the bytes that are due for words and a text, while no end fails
-use Rattle.std.specs.Prelude.{◌≡◌, ℕ, ◌<◌, ◌≤◌, Bool, true, false, List, [], ◌∷◌, ◌++◌, length, codes, decimal}
-use Rattle.std.specs.Str.{bytes_eq}
-use Rattle.qm_instr.specs.Programs.{Programs}
-use Rattle.qm_proto.specs.declared.Cause.{Cause}
-use Rattle.qm_proto.specs.declared.Cause.TheVariants as cause
-use Rattle.qm_proto.specs.Model.State.{State}
-use Rattle.qm_proto.specs.Model.Runs.{IsRefused}
-use Rattle.qm_proto.specs.Model.Schedules.{replay, AllEnded, IsFirst, IsStuck, IsLowestLeft, IsLowestEnabled, protocol_total}
+use Rattle.std.specs.Prelude.{◌≡◌, ℕ, ◌<◌, ◌≤◌, ◌⊎◌, Bool, true, false, List, ◌++◌, Some, None, length, codes, decimal}
+use Rattle.qm_instr.specs.Programs.{Programs, IsInRange}
+use Rattle.qm_proto.specs.Model.Schedules.{replay, protocol_total, RendezvousEnds}
 use Rattle.qm_proto.specs.Model.Ideal.{ideal_replay, IsOneRun, AllDone}
+use Rattle.qm_runs.specs.Endings.Completing.{NeverRefused}
+use Rattle.qm_runs.specs.Stuck.NeverStuck.{NeverStuck}
+use Rattle.qm_ranks.specs.Dues.{IsScheduleOf, IsDue}
 use Rattle.qm_reader.specs.declared.Refusal.{Refusal}
 use Rattle.qm_reader.specs.declared.Refusal.TheVariants.{Unexpected, RanksNotBuilt}
 use Rattle.qm_reader.specs.Reading.{Reads, IsRefusedFor}
+use Rattle.qm_tool.specs.declared.command.Command.{Command}
 use Rattle.qm_tool.specs.declared.status.Status.{Status}
 use Rattle.qm_tool.specs.declared.status.Status.TheVariants as status
+use Rattle.qm_tool.specs.Commands.{command_of, order_of, block_of}
 use Rattle.qm_tool.specs.StateText.{IsStateText}
-
--- the words are the one command
-abbrev pub is_plain : List (List ℕ) → Bool
-is_plain [] = false
-is_plain (w ∷ []) = bytes_eq w (codes "plain")
-is_plain (w ∷ v ∷ ws) = false
 
 -- the line of a refusal
 abbrev pub refusal_line : Refusal → List ℕ
 refusal_line (Unexpected line) = codes "refused unexpected line " ++ decimal line ++ codes "\n"
 refusal_line (RanksNotBuilt line) = codes "refused ranks-not-built line " ++ decimal line ++ codes "\n"
-
--- the name of a cause
-abbrev pub cause_name : Cause → List ℕ
-cause_name cause.Overflow = codes "overflow"
-cause_name cause.Impossible = codes "impossible"
-cause_name cause.NotZero = codes "not-zero"
-cause_name cause.NotEqual = codes "not-equal"
-cause_name cause.Stuck = codes "stuck"
-
--- the line of a run that stopped at a rank after so many turns
-abbrev pub stopped_line : ℕ → ℕ → Cause → List ℕ
-stopped_line rank turns cause =
-    codes "stopped rank " ++ decimal rank ++ codes " turns " ++ decimal turns ++ codes " " ++ cause_name cause ++ codes "\n"
 
 -- the text is the state text of what the schedule leaves
 abbrev pub IsTextAfter : Programs → List ℕ → List ℕ → Type 0
@@ -52,31 +33,20 @@ pub record IsOneText (p : Programs) (text : List ℕ) : Type 0 where
   pub done : AllDone p (ideal_replay p run).tables
   pub state : let s = ideal_replay p run in IsStateText p s.circuit (protocol_total p) (λ r. (s.tables.parts r).bits) s.tables.slots text
 
--- the programs run to their end where the lowest rank that may go on always does, and the bytes are the state text
-pub record EndsWith (text bytes : List ℕ) : Type 0 where
+-- the text reads as programs, and the bytes are due where the ranks take their turns in the command's order; whether all ranks end
+pub record RunsTo (complete : Bool) (c : Command) (text bytes : List ℕ) : Type 0 where
   pub programs : Programs
   pub reads : Reads text programs
-  pub schedule : List ℕ
-  pub first : IsFirst programs schedule
-  pub ended : AllEnded programs (replay programs schedule).tables
-  pub state : IsTextAfter programs schedule bytes
+  pub in_range : IsInRange programs
+  pub due : IsDue programs (order_of c) (IsTextAfter programs) (block_of c programs) bytes complete
 
--- where a state stops the run that always takes the lowest rank that may go on: that rank is refused, or none may go on and this is the
--- lowest that has events left
-pub data StopsAt (p : Programs) (s : State) (rank : ℕ) : Cause → Type 0 where
-  Refused : (c : Cause) → IsLowestEnabled p s.tables rank → IsRefused p s rank c → StopsAt p s rank c
-  Stuck : IsStuck p s.tables → IsLowestLeft p s.tables rank → StopsAt p s rank cause.Stuck
+-- the run is complete: the bytes are the state text of its end, and the block
+abbrev pub EndsWith : Command → List ℕ → List ℕ → Type 0
+EndsWith c text bytes = RunsTo true c text bytes
 
--- the run stops, and the bytes are the line that says where and why
-pub record StopsWith (text bytes : List ℕ) : Type 0 where
-  pub programs : Programs
-  pub reads : Reads text programs
-  pub schedule : List ℕ
-  pub first : IsFirst programs schedule
-  pub rank : ℕ
-  pub cause : Cause
-  pub stops : StopsAt programs (replay programs schedule) rank cause
-  pub line : bytes ≡ stopped_line rank (length schedule) cause
+-- the run stops: the bytes are the line that says where and why, and the block
+abbrev pub StopsWith : Command → List ℕ → List ℕ → Type 0
+StopsWith c text bytes = RunsTo false c text bytes
 
 -- the text is refused, and the bytes are the line that says where
 pub record RefusedWith (text bytes : List ℕ) : Type 0 where
@@ -84,24 +54,35 @@ pub record RefusedWith (text bytes : List ℕ) : Type 0 where
   pub refused : IsRefusedFor text refusal
   pub line : bytes ≡ refusal_line refusal
 
--- a text of one rank is the program of one circuit, and the bytes are that circuit's state text
-pub record IsOneCircuit (text bytes : List ℕ) : Type 0 where
+-- the bytes are the state text of the one circuit of the text's programs, and the block of the command's schedule
+pub record IsOneCircuit (c : Command) (text bytes : List ℕ) : Type 0 where
   pub programs : Programs
   pub reads : Reads text programs
-  pub one : length programs.ranks ≡ 1 → IsOneText programs bytes
+  pub state : List ℕ
+  pub one : IsOneText programs state
+  pub schedule : List ℕ
+  pub order : IsScheduleOf programs (order_of c) schedule
+  pub whole : bytes ≡ state ++ block_of c programs schedule
 
 -- what is due for a text that came whole
-abbrev pub DueOf : List ℕ → Status → List ℕ → Type 0
-DueOf text status.Ok bytes = EndsWith text bytes
-DueOf text status.Stopped bytes = StopsWith text bytes
-DueOf text status.Refused bytes = RefusedWith text bytes
-DueOf text s bytes = ⊥
+abbrev pub DueOf : Command → List ℕ → Status → List ℕ → Type 0
+DueOf c text status.Ok bytes = EndsWith c text bytes
+DueOf c text status.Stopped bytes = StopsWith c text bytes
+DueOf c text status.Refused bytes = RefusedWith text bytes
+DueOf c text s bytes = ⊥
 
 -- what is due for words and all bytes that a source has
 pub data Due (words : List (List ℕ)) (text : List ℕ) : Status → List ℕ → Type 0 where
-  NoCommand : is_plain words ≡ false → Due words text status.Usage (codes "usage\n")
-  TooMuch : is_plain words ≡ true → 1048576 < length text → Due words text status.TooLong (codes "too long\n")
-  Whole : (s : Status) (bytes : List ℕ) → is_plain words ≡ true → length text ≤ 1048576 → DueOf text s bytes → Due words text s bytes
+  NoCommand : command_of words ≡ None → Due words text status.Usage (codes "usage\n")
+  TooMuch : (c : Command) → command_of words ≡ Some c → 1048576 < length text → Due words text status.TooLong (codes "too long\n")
+  Whole : (c : Command) (s : Status) (bytes : List ℕ) → command_of words ≡ Some c → length text ≤ 1048576 → DueOf c text s bytes → Due words text s bytes
+
+-- the text reads as programs of which no legal schedule comes to a refused event, and none to a stuck state or the rendezvous run ends
+pub record IsSure (text : List ℕ) : Type 0 where
+  pub programs : Programs
+  pub reads : Reads text programs
+  pub never_refused : NeverRefused programs
+  pub never_stuck : NeverStuck programs ⊎ RendezvousEnds programs
 
 -- one status and one text alone is due
 abbrev pub OneAnswer : Type 0

@@ -1,7 +1,7 @@
 pub mod Statuses
+pub mod Commands
 pub mod StateText
 pub mod Branches
 pub mod Due
 pub mod Calls
 pub mod Answers
-pub mod Plays

@@ -1,19 +1,19 @@
 //! What a command answers. All memory is taken before the first byte is written.
-ghost use Rattle.std.specs.Prelude.{◌≡◌, ◌<◌, ◌≤◌, ◌++◌, [], length, IfOk, OnOk};
+ghost use Rattle.std.specs.Prelude.{◌≡◌, ◌<◌, ◌≤◌, ◌++◌, [], None, length, IfOk, OnOk};
 ghost use Rattle.qm_denot.specs.Stores.{StandsFor};
 ghost use Rattle.qm_instr.specs.Programs.{rank_of};
 ghost use Rattle.qm_check.specs.Checks.{capacity_of};
 ghost use Rattle.qm_io.specs.Ends.{Puts};
-ghost use Rattle.qm_machine.specs.Built.{IsBuilt};
 ghost use Rattle.qm_machine.specs.Keeps.{Keeps, state_of};
-ghost use Rattle.qm_proto.specs.Model.Schedules.{AllEnded};
-ghost use Rattle.qm_tool.specs.Answers.{status_of, text_of, MayPut, IsRun};
-ghost use Rattle.qm_tool.specs.Due.{refusal_line, stopped_line, cause_name};
-ghost use Rattle.qm_tool.specs.Plays.{PlaysFirst};
+ghost use Rattle.qm_ranks.specs.Blocks.{cause_name, stopped_line};
+ghost use Rattle.qm_ranks.specs.Dues.{HasPlayed};
+ghost use Rattle.qm_tool.specs.Answers.{status_of, text_of, MayPut, HasMachine, IsRun};
+ghost use Rattle.qm_tool.specs.Commands.{order_of};
+ghost use Rattle.qm_tool.specs.Due.{refusal_line};
 ghost use Rattle.qm_tool.specs.StateText.{full_slots, rank_slots};
 
+use crate::command::Command;
 use crate::full_slot::FullSlot;
-use crate::play::play;
 use crate::state_text::{Branch, put_number, put_state};
 use crate::status::Status;
 use itoa::Integer;
@@ -21,6 +21,7 @@ use qm_check::Ready;
 use qm_denot::Amps;
 use qm_io::{Failed, Sink, put_bytes};
 use qm_machine::{Cause, Halt, Machine, State};
+use qm_ranks::{play_order, play_seed};
 use qm_reader::Refusal;
 use std::alloc::{AllocError, Global};
 
@@ -90,10 +91,8 @@ fn full_slots<A: Amps>(alloc: Global, machine: &Machine<A>) -> Result<Vec<FullSl
 
 /// The answer of a machine all of whose ranks have ended. `AllocError` comes from the allocator alone.
 fn ended<A: Amps>(alloc: Global, machine: Machine<A>) -> Result<Answer<A>, AllocError>
-    requires kept { Keeps A.store machine }
-    requires plays { PlaysFirst machine.programs machine }
-    requires end { AllEnded machine.programs (state_of machine).tables }
-    ensures run { IfOk result (IsRun A.store machine.programs) }
+    requires { Keeps A.store machine }
+    ensures machine { IfOk result (HasMachine machine) }
     ensures may_put { IfOk result (MayPut A.store) }
 {
     let slots = full_slots(alloc, &machine)?;
@@ -105,18 +104,36 @@ fn ended<A: Amps>(alloc: Global, machine: Machine<A>) -> Result<Answer<A>, Alloc
     })
 }
 
-/// Runs ready programs, over a store that stands for the empty circuit. `AllocError` comes from the allocator alone.
-pub(crate) fn run<A: Amps>(alloc: Global, ready: Ready, amps: A) -> Result<Answer<A>, AllocError>
+/// Plays a machine from its start in the order of a command, until no rank has an event left or the machine is halted.
+fn play<A: Amps>(machine: &mut Machine<A>, command: Command)
     requires able { A.able }
-    requires built { IsBuilt ready }
+    requires start { machine.old.schedule ≡ [] }
+    requires running { machine.old.halted ≡ None }
+    ensures programs { machine.new.programs ≡ machine.old.programs }
+    ensures played { HasPlayed (order_of command) machine.new }
+{
+    match command {
+        Command::Plain => play_order(machine),
+        Command::Sched { seed } => play_seed(machine, seed),
+    }
+}
+
+/// Runs ready programs under a command, over a store that stands for the empty circuit. `AllocError` comes from the allocator alone.
+pub(crate) fn run<A: Amps>(
+    alloc: Global,
+    command: Command,
+    ready: Ready,
+    amps: A,
+) -> Result<Answer<A>, AllocError>
+    requires able { A.able }
     requires stands { StandsFor (A.store amps) [] }
     requires live { (A.store amps).live ≡ [] }
     requires room { capacity_of ready ≤ (A.store amps).capacity }
-    ensures run { IfOk result (IsRun A.store ready) }
+    ensures run { IfOk result (IsRun A.store command ready) }
     ensures may_put { IfOk result (MayPut A.store) }
 {
     let mut machine = Machine::start(alloc, ready, amps)?;
-    play(&mut machine);
+    play(&mut machine, command);
     match machine.state() {
         State::Halted { halt } => Ok(Answer::Stopped { halt }),
         State::AllEnded => ended(alloc, machine),

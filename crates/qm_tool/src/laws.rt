@@ -2,8 +2,7 @@
 ghost use Rattle.qm_tool.specs.Due.{OneAnswer, OneText};
 
 /// For words and all bytes that a source has, one status and one text alone is due: a text is read as the programs of one input or refused
-/// for one reason, one schedule always takes the lowest rank that can go on, it ends or stops in one way, and its circuit has one reduced
-/// form.
+/// for one reason, the command determines one schedule of the programs, it ends or stops in one way, and its circuit has one reduced form.
 pub fn one_answer_law()
     ensures { OneAnswer }
 {}

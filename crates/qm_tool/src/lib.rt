@@ -2,13 +2,14 @@
 #![tactic(auto)]
 
 mod answer;
+mod command;
 mod full_slot;
 pub mod laws;
-mod play;
 mod state_text;
 mod status;
 mod top;
 
+pub use command::Command;
 pub use full_slot::FullSlot;
 pub use qm_reader::Refusal;
 pub use status::Status;

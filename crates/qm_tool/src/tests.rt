@@ -22,7 +22,7 @@ const COPY_ZERO: &str =
 const COPIED: &str =
     "state 1\nranks 2\nprotocol 1\nscale 2\nbits 0 00000000\nbits 1 00000000\nlive 0.0 1.0\n00 1 0 0 0\n11 1 0 0 0\nend\n";
 
-fn rows() -> [Row; 15] {
+fn rows() -> [Row; 28] {
     [
         (
             "plain",
@@ -61,7 +61,20 @@ fn rows() -> [Row; 15] {
         ),
         ("plain", COPY_ONE, 0, 0, COPIED),
         ("plain", COPY_ZERO, 0, 0, COPIED),
+        ("sched 1", COPY_ONE, 0, 0, COPIED),
+        ("sched 007", COPY_ONE, 0, 0, COPIED),
+        ("sched 18446744073709551615", COPY_ZERO, 0, 0, COPIED),
+        ("sched 00000000000000000002", COPY_ZERO, 0, 0, COPIED),
         ("plain more", PLUS, 0, 2, "usage\n"),
+        ("plain 7", PLUS, 0, 2, "usage\n"),
+        ("sched", PLUS, 0, 2, "usage\n"),
+        ("sched x", PLUS, 0, 2, "usage\n"),
+        ("sched +1", PLUS, 0, 2, "usage\n"),
+        ("sched 18446744073709551616", PLUS, 0, 2, "usage\n"),
+        ("sched 000000000000000000002", PLUS, 0, 2, "usage\n"),
+        ("sched 1 1", PLUS, 0, 2, "usage\n"),
+        ("Sched 1", PLUS, 0, 2, "usage\n"),
+        ("sched 1", PLUS, 3, 7, "state 1\nranks "),
         ("", PLUS, 0, 2, "usage\n"),
         (
             "plain",
@@ -121,6 +134,36 @@ fn a_command_writes_what_is_due(rt: HostRuntime) -> Result<(), Fail> {
         let status = tool_plain(rt.alloc(), &command, &mut source, &mut sink);
         assert_eq!(rt; status.code(), code, "at {text}");
         assert_eq!(rt; sink.taken(), taken.as_bytes(), "at {text}");
+    }
+    Ok(())
+}
+
+/// The status of a command whose sink fails at one call, and how many bytes the sink took.
+fn run_failing(alloc: Global, words: &str, failing: u64) -> Result<(u8, usize), AllocError> {
+    let command = command_of(alloc, words)?;
+    let mut source = SureSource::start(COPY_ONE.as_bytes().to_vec(alloc)?, 100);
+    let mut sink = MemSink::start(alloc, 400, [failing].to_vec(alloc)?, 8)?;
+    let status = tool_plain(alloc, &command, &mut source, &mut sink);
+    Ok((status.code(), sink.taken().len()))
+}
+
+// The last call on the sink is the flush, after the last write.
+#[test]
+fn a_flush_that_fails_is_a_write_fault(rt: HostRuntime) -> Result<(), Fail> {
+    for words in ["plain", "sched 3"] {
+        let mut calls = 1u64;
+        for _ in 0..200 {
+            if run_failing(rt.alloc(), words, calls)?.0 == 7 {
+                calls = calls.saturating_add(1);
+            }
+        }
+        let whole = COPIED.len();
+        assert_eq!(rt; run_failing(rt.alloc(), words, calls)?, (0, whole));
+        assert_eq!(rt;
+            run_failing(rt.alloc(), words, calls.saturating_sub(1))?,
+            (7, whole)
+        );
+        assert!(rt; run_failing(rt.alloc(), words, calls.saturating_sub(2))?.1 < whole);
     }
     Ok(())
 }

@@ -2,3 +2,4 @@ pub mod Component
 pub mod Numbers
 pub mod Range
 pub mod Zw
+pub mod NumberLists

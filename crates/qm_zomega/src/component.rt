@@ -25,6 +25,24 @@ pub fn ranged_difference(x: i128, y: i128) -> Option<i128>
     }
 }
 
+/// The sum, which the caller knows to be in the range.
+#[inline(always)]
+pub fn fitting_sum(x: i128, y: i128) -> i128
+    requires { IsInRange (x +ℤ y) }
+    ensures { result ≡ x +ℤ y }
+{
+    x + y
+}
+
+/// The difference, which the caller knows to be in the range.
+#[inline(always)]
+pub fn fitting_difference(x: i128, y: i128) -> i128
+    requires { IsInRange (x -ℤ y) }
+    ensures { result ≡ x -ℤ y }
+{
+    x - y
+}
+
 /// A number as `2 * half + rest`, where `rest` is 0 or 1.
 #[derive(Clone, Copy)]
 struct Halves {

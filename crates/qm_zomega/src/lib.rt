@@ -6,8 +6,12 @@
 ghost use Rattle.qm_zomega.specs.Range.{IsInRange};
 
 mod component;
+mod numerator;
+mod root2;
 
 use component::{half_difference, half_sum, is_even_sum, ranged_difference, ranged_sum};
+pub use numerator::Numerator;
+pub use root2::root2_law;
 
 /// The number `a + b omega + c omega^2 + d omega^3`.
 ///

@@ -1,14 +1,14 @@
 //! Tests on the non-zero numerators of a list.
 ghost use Rattle.std.specs.Prelude.{◌≡◌, ◌≢◌, ℕ, ◌<◌, ◌≤◌, ◌^◌, true, false, length};
 ghost use Rattle.qm_zomega.specs.Numbers.{zero_number};
-ghost use Rattle.qm_denot.specs.Places.{has_place};
-ghost use Rattle.qm_denot.specs.Plain.{HasPlace, number_at};
+ghost use Rattle.qm_denot.specs.Places.{has_place, HasPlace};
+ghost use Rattle.qm_zomega.specs.NumberLists.{number_at};
 
 use crate::plain::places::bit_at;
 use qm_zomega::Zw;
 
 /// Whether some non-zero numerator has this bit at a place.
-pub(crate) fn any_with(numerators: &[Zw], place: u32, bit: bool) -> bool
+pub fn any_with(numerators: &[Zw], place: u32, bit: bool) -> bool
     requires small { length numerators.now ≤ 2 ^ 22 }
     requires place { HasPlace (length numerators.now) place }
     ensures yes { result ≡ true → (k : ℕ) × (k < length numerators.now) × (has_place place k ≡ bit) × (number_at numerators.now k ≢ zero_number) }
@@ -23,7 +23,7 @@ pub(crate) fn any_with(numerators: &[Zw], place: u32, bit: bool) -> bool
 }
 
 /// Whether some non-zero numerator has two different bits at two places.
-pub(crate) fn any_unequal(numerators: &[Zw], one: u32, other: u32) -> bool
+pub fn any_unequal(numerators: &[Zw], one: u32, other: u32) -> bool
     requires small { length numerators.now ≤ 2 ^ 22 }
     requires one { HasPlace (length numerators.now) one }
     requires other { HasPlace (length numerators.now) other }

@@ -2,7 +2,8 @@
 ghost use Rattle.std.specs.Prelude.{◌≡◌, ◌*◌, ◌/◌, ◌<◌, ◌≤◌, ◌^◌, length};
 ghost use Rattle.std.specs.Vec.{vec_capacity};
 ghost use Rattle.qm_zomega.specs.Zw.{value_of};
-ghost use Rattle.qm_denot.specs.Plain.{FitsRule, HasPlace, IsRewritten, number_after, size_after};
+ghost use Rattle.qm_denot.specs.Places.{HasPlace};
+ghost use Rattle.qm_denot.specs.Plain.{FitsRule, IsRewritten, number_after, size_after};
 
 use crate::plain::places::{bit_at, with_bit, with_bit_put_in, with_other_bit};
 use qm_zomega::Zw;

@@ -4,7 +4,9 @@ ghost use Rattle.std.specs.Vec.{vec_capacity};
 ghost use Rattle.qm_zomega.specs.Numbers.{zero_number, root2_of};
 ghost use Rattle.qm_zomega.specs.Range.{FitsZw};
 ghost use Rattle.qm_zomega.specs.Zw.{value_of};
-ghost use Rattle.qm_denot.specs.Plain.{AllDivisible, HasPlace, IsReducedList, Reduces, number_at, had_number};
+ghost use Rattle.qm_denot.specs.LettersByPlace.{had_at};
+ghost use Rattle.qm_denot.specs.Places.{HasPlace};
+ghost use Rattle.qm_zomega.specs.NumberLists.{AllDivisible, IsReducedList, Reduces, number_at};
 
 use crate::amps::Overflow;
 use crate::plain::places::{bit_at, with_bit};
@@ -15,8 +17,8 @@ fn had_entry(from: &[Zw], place: u32, k: usize) -> Option<Zw>
     requires small { length from.now ≤ 2 ^ 22 }
     requires place { HasPlace (length from.now) place }
     requires within { k < length from.now }
-    ensures fits { IsSome result ↔ FitsZw (had_number from.now place k) }
-    ensures value { IfSome result (λ z. value_of z ≡ had_number from.now place k) }
+    ensures fits { IsSome result ↔ FitsZw (had_at place (number_at from.now) k) }
+    ensures value { IfSome result (λ z. value_of z ≡ had_at place (number_at from.now) k) }
 {
     if bit_at(place, k) {
         from[with_bit(place, false, k)].sub(from[k])
@@ -33,9 +35,9 @@ pub(crate) fn fill_had(from: &[Zw], into: &mut Vec<Zw>, place: u32) -> Result<()
     requires place { HasPlace (length from.now) place }
     requires room { length from.now ≤ vec_capacity into.old }
     ensures size { OnOk result (length into.new.items ≡ length from.now) }
-    ensures numbers { OnOk result ((k : ℕ) → k < length from.now → number_at into.new.items k ≡ had_number from.now place k) }
-    ensures fits { IsOk result → (k : ℕ) → k < length from.now → FitsZw (had_number from.now place k) }
-    ensures overflow { IsErr result → (k : ℕ) × (k < length from.now) × (¬ (FitsZw (had_number from.now place k))) }
+    ensures numbers { OnOk result ((k : ℕ) → k < length from.now → number_at into.new.items k ≡ had_at place (number_at from.now) k) }
+    ensures fits { IsOk result → (k : ℕ) → k < length from.now → FitsZw (had_at place (number_at from.now) k) }
+    ensures overflow { IsErr result → (k : ℕ) × (k < length from.now) × (¬ (FitsZw (had_at place (number_at from.now) k))) }
     ensures room { vec_capacity into.old ≤ vec_capacity into.new }
 {
     into.clear();

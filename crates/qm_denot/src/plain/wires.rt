@@ -6,8 +6,8 @@ ghost use Rattle.qm_denot.specs.WireLists.{Distinct, wires_of};
 use crate::Wire;
 use crate::plain::places::with_bit;
 
-/// The place of a live wire.
-pub(crate) fn place_of(live: &[Wire], w: Wire) -> u32
+/// The place of a live wire: its position in the list.
+pub fn place_of(live: &[Wire], w: Wire) -> u32
     requires live { Contains live.now w }
     requires few { length live.now ≤ 22 }
     ensures below { result < length live.now }
@@ -21,8 +21,8 @@ pub(crate) fn place_of(live: &[Wire], w: Wire) -> u32
     unreachable!()
 }
 
-/// The index of the set of these wires.
-pub(crate) fn index_at(live: &[Wire], ones: &[Wire]) -> usize
+/// The index of the set of these wires: the sum of `2^p` over their places p.
+pub fn index_at(live: &[Wire], ones: &[Wire]) -> usize
     requires ones { All (Contains live.now) ones.now }
     requires few { length live.now ≤ 22 }
     requires distinct { Distinct live.now }

@@ -1,39 +1,32 @@
 -- The acts of which events are made: what each does to the tables, and which letters it does
-use Rattle.std.specs.Prelude.{ℕ, ◌+◌, Bool, List, [], ◌∷◌, ◌++◌, Some, None, drop, slice_set}
-use Rattle.qm_denot.specs.declared.Wire.{Wire}
+use Rattle.std.specs.Prelude.{ℕ, ◌+◌, ◌-◌, true, false, List, [], ◌∷◌, ◌++◌, Some, None, drop, slice_set}
 use Rattle.qm_denot.specs.declared.Letter.{Letter}
 use Rattle.qm_denot.specs.declared.Letter.TheVariants.{Pair, Take}
-use Rattle.qm_denot.specs.WireLists.{without_wire}
-use Rattle.qm_instr.specs.declared.Lane.{Lane}
-use Rattle.qm_proto.specs.declared.Parcel.{Parcel}
+use Rattle.qm_denot.specs.Wires.{put}
+use Rattle.qm_denot.specs.Parcels.{filled}
+use Rattle.qm_proto.specs.declared.Act.{Act}
+use Rattle.qm_proto.specs.declared.Act.TheVariants.{Fresh, Twin, Apply, SlotOut, NearOut, FarOut, Settle, Posts, Fills, Receives, OwnUsed, ProtocolUsed, FirstKept, BitSet}
+use Rattle.qm_proto.specs.declared.Few.{Few}
+use Rattle.qm_proto.specs.declared.Few.TheVariants.{Empty, One, Two, Three}
 use Rattle.qm_proto.specs.Model.State.{Part, Tables, with_at, with_slot, with_lane, with_part, wire_in, far_made, near_made, near_last, front}
 
--- one act of a rank
-pub data Act : Type 0 where
-  Fresh : (q : ℕ) → Act  -- a fresh wire goes into slot q
-  Twin : (to : ℕ) → Act  -- an EPR pair: the near half here, the far half at rank `to`
-  Apply : Letter → Act  -- a letter that moves no wire
-  SlotOut : (q : ℕ) (m : Bool) → Act  -- the wire in slot q is measured away with outcome m
-  NearOut : (m : Bool) → Act  -- the near half made last is measured away with outcome m
-  FarOut : (f : Wire) (m : Bool) → Act  -- the far half f is measured away with outcome m
-  Settle : (f : Wire) (q : ℕ) → Act  -- the far half f goes into slot q, and is no half any more
-  Posts : Lane → Parcel → Act  -- a parcel goes to the end of a lane
-  Fills : Lane → Bool × Bool → Act  -- the last parcel of a lane gets its bits
-  Receives : Lane → Act  -- the front parcel of a lane is taken
-  OwnUsed : Act  -- an outcome of the own tape is used
-  ProtocolUsed : Act  -- an outcome of the protocol tape is used
-  FirstKept : (m : Bool) → Act  -- the first outcome of a move is kept for its end
-  BitSet : (b : ℕ) (v : Bool) → Act  -- bit b becomes v
+-- a list of at most three
+abbrev pub list_of : {A : Type 0} → Few A → List A
+list_of Empty = []
+list_of (One a) = a ∷ []
+list_of (Two a b) = a ∷ b ∷ []
+list_of (Three a b c) = a ∷ b ∷ c ∷ []
 
 -- a rank that has counted one wire more
 abbrev pub counted : Part → Part
 counted x = record x { made = x.made + 1 }
 
--- the parcels with bits in the last one
-abbrev pub filled : List Parcel → Bool × Bool → List Parcel
-filled [] b = []
-filled (x ∷ []) b = record x { bits = Some b } ∷ []
-filled (x ∷ y ∷ xs) b = x ∷ filled (y ∷ xs) b
+-- counts with one more, and one less, at r
+abbrev pub more_at : (ℕ → ℕ) → ℕ → (ℕ → ℕ)
+more_at f r = with_at f r (f r + 1)
+
+abbrev pub less_at : (ℕ → ℕ) → ℕ → (ℕ → ℕ)
+less_at f r = with_at f r (f r - 1)
 
 -- the tables after an act of rank r
 abbrev pub done : ℕ → Act → Tables → Tables
@@ -42,15 +35,16 @@ done r (Fresh q) t =
 done r (Twin to) t =
     record t {
       parts = with_at t.parts r (counted (t.parts r));
-      near = with_at t.near r (t.near r ++ near_made t r ∷ []);
-      far = with_at t.far to (t.far to ++ far_made t r ∷ []);
+      near = with_at t.near r (put (t.near r) (near_made t r) true);
+      far = with_at t.far to (put (t.far to) (far_made t r) true);
+      held = more_at (more_at t.held r) to;
     }
 done r (Apply l) t = t
 done r (SlotOut q m) t = record t { slots = with_slot t.slots r q None }
-done r (NearOut m) t = record t { near = with_at t.near r (without_wire (t.near r) (near_last t r)) }
-done r (FarOut f m) t = record t { far = with_at t.far r (without_wire (t.far r) f) }
+done r (NearOut m) t = record t { near = with_at t.near r (put (t.near r) (near_last t r) false); held = less_at t.held r }
+done r (FarOut f m) t = record t { far = with_at t.far r (put (t.far r) f false); held = less_at t.held r }
 done r (Settle f q) t =
-    record t { slots = with_slot t.slots r q (Some f); far = with_at t.far r (without_wire (t.far r) f) }
+    record t { slots = with_slot t.slots r q (Some f); far = with_at t.far r (put (t.far r) f false); held = less_at t.held r }
 done r (Posts a x) t = record t { lanes = with_lane t.lanes a (t.lanes a ++ x ∷ []) }
 done r (Fills a b) t = record t { lanes = with_lane t.lanes a (filled (t.lanes a) b) }
 done r (Receives a) t =

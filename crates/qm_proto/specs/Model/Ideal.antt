@@ -2,7 +2,7 @@
 use Rattle.std.specs.Prelude.{◌≡◌, ℕ, ◌+◌, ◌<◌, max, nat_eq, nat_lt, Bool, true, false, ◌&&◌, List, [], ◌∷◌, ◌++◌, Option, Some, None, is_some, unwrap_or, slice_index_or, slice_set, drop, length, fold, replicate, filter}
 use Rattle.qm_denot.specs.declared.Wire.{Wire}
 use Rattle.qm_denot.specs.declared.Letter.{Letter}
-use Rattle.qm_denot.specs.declared.Letter.TheVariants.{Cx, Keep, Take, Rename}
+use Rattle.qm_denot.specs.declared.Letter.TheVariants.{Cx, Pair, Keep, Take, Rename}
 use Rattle.qm_denot.specs.Circuits.{Circuit}
 use Rattle.qm_denot.specs.Protocols.{differing, letter_if}
 use Rattle.qm_denot.specs.Stores.{live_after}
@@ -12,11 +12,11 @@ use Rattle.qm_instr.specs.declared.Instr.{Instr}
 use Rattle.qm_instr.specs.declared.Instr.TheVariants as instr
 use Rattle.qm_instr.specs.declared.Kind.TheVariants as kind
 use Rattle.qm_instr.specs.declared.Lane.{Lane}
-use Rattle.qm_instr.specs.Lanes.{lane, lane_sent}
+use Rattle.qm_instr.specs.Lanes.{lane, lane_sent, is_on}
 use Rattle.qm_instr.specs.Programs.{Programs, RankProgram, rank_of}
 use Rattle.qm_proto.specs.Model.State.{with_at, with_slot, with_lane, no_wire}
 use Rattle.qm_proto.specs.Model.Rows.{gate_letter, instr_at, wire_offered}
-use Rattle.qm_proto.specs.Model.Runs.{is_on, receives_on}
+use Rattle.qm_proto.specs.Model.Runs.{receives_on}
 
 -- what a lane holds
 pub data Load : Type 0 where
@@ -236,8 +236,9 @@ has_instr p t r = is_some (ideal_current p t r)
 abbrev pub AllDone : Programs → IdealTables → Type 0
 AllDone p t = (r : ℕ) → r < length p.ranks → has_instr p t r ≡ false
 
--- the wires of a letter that are made fresh before it, where no letter before it names them
+-- the wires of a letter that are made fresh before it, where no letter before it names them; a pair makes both of its wires itself
 abbrev pub made_fresh : Letter → List Wire
+made_fresh (Pair a b) = []
 made_fresh (Rename a b) = a ∷ []
 made_fresh l = operands l
 

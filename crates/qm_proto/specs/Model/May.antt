@@ -1,14 +1,18 @@
 -- When a rank may do an act: what must be there for it, and how much room it takes
 use Rattle.std.specs.Prelude.{◌≡◌, ◌≢◌, ℕ, ◌+◌, ◌-◌, ◌<◌, ◌≤◌, ◌^◌, List, [], ◌∷◌, None, length}
 use Rattle.qm_denot.specs.declared.Wire.{Wire}
+use Rattle.qm_denot.specs.Wires.{no_wires}
 use Rattle.qm_denot.specs.declared.Letter.{Letter}
 use Rattle.qm_denot.specs.declared.Letter.TheVariants.{Phase, Flip, Had, Cx, Cz, Pair, Keep, Take, Rename}
 use Rattle.qm_instr.specs.declared.Lane.{Lane}
-use Rattle.qm_proto.specs.declared.Parcel.{Parcel}
+use Rattle.qm_denot.specs.Parcels.{IsFillable}
 use Rattle.qm_proto.specs.Model.State.{Tables, far_made, near_made, near_last, front}
-use Rattle.qm_proto.specs.Model.Acts.{Act, Fresh, Twin, Apply, SlotOut, NearOut, FarOut, Settle, Posts, Fills, Receives, OwnUsed, ProtocolUsed, FirstKept, BitSet, done}
-use Rattle.qm_proto.specs.Model.Rows.{Check, Possible, Zero, Equal, Fits}
-use Rattle.qm_proto.specs.Model.Places.{Place, InSlot, NearOf, FarOf, IsPlaced, IsOnlyAt}
+use Rattle.qm_proto.specs.declared.Act.{Act}
+use Rattle.qm_proto.specs.declared.Act.TheVariants.{Fresh, Twin, Apply, SlotOut, NearOut, FarOut, Settle, Posts, Fills, Receives, OwnUsed, ProtocolUsed, FirstKept, BitSet}
+use Rattle.qm_proto.specs.Model.Acts.{done}
+use Rattle.qm_proto.specs.declared.Check.{Check}
+use Rattle.qm_proto.specs.declared.Check.TheVariants.{Possible, Zero, Equal, Fits}
+use Rattle.qm_proto.specs.Model.Places.{Place, InSlot, NearOf, FarOf, IsPlaced, IsOnlyAt, IsOwn}
 
 -- how many ranks there are, how many wires more a store has room for, how many parcels a lane may have, and how many letters more can be
 -- counted
@@ -18,29 +22,29 @@ pub record Limits : Type 0 where
   pub parcels : Lane → ℕ
   pub letters : ℕ
 
--- there is a last parcel, and it has no bits yet
-abbrev pub IsFillable : List Parcel → Type 0
-IsFillable [] = ⊥
-IsFillable (x ∷ []) = x.bits ≡ None
-IsFillable (x ∷ y ∷ xs) = IsFillable (y ∷ xs)
-
 -- both wires have places, and they differ
 pub record AreTwo (t : Tables) (c v : Wire) : Type 0 where
   pub first : IsPlaced t c
   pub second : IsPlaced t v
   pub differ : c ≢ v
 
--- the letter moves no wire, and its operands have places and differ
-abbrev pub MayLetter : Letter → Tables → Type 0
-MayLetter (Phase k w) t = (k < 8) × IsPlaced t w
-MayLetter (Flip w) t = IsPlaced t w
-MayLetter (Had w) t = IsPlaced t w
-MayLetter (Cx c v) t = AreTwo t c v
-MayLetter (Cz c v) t = AreTwo t c v
-MayLetter (Pair a b) t = ⊥
-MayLetter (Keep w m) t = IsPlaced t w
-MayLetter (Take w m) t = ⊥
-MayLetter (Rename a b) t = ⊥
+-- both wires are rank r's own, and they differ
+pub record AreOwnTwo (t : Tables) (r : ℕ) (c v : Wire) : Type 0 where
+  pub first : IsOwn t r c
+  pub second : IsOwn t r v
+  pub differ : c ≢ v
+
+-- the letter moves no wire, and its operands are rank r's own and differ
+abbrev pub MayLetter : ℕ → Letter → Tables → Type 0
+MayLetter r (Phase k w) t = (k < 8) × IsOwn t r w
+MayLetter r (Flip w) t = IsOwn t r w
+MayLetter r (Had w) t = IsOwn t r w
+MayLetter r (Cx c v) t = AreOwnTwo t r c v
+MayLetter r (Cz c v) t = AreOwnTwo t r c v
+MayLetter r (Pair a b) t = ⊥
+MayLetter r (Keep w m) t = IsOwn t r w
+MayLetter r (Take w m) t = ⊥
+MayLetter r (Rename a b) t = ⊥
 
 -- slot q of rank r is empty, the wire that the rank's count names has no place, and there is room for it
 pub record MayFresh (s : Limits) (r q : ℕ) (t : Tables) : Type 0 where
@@ -53,8 +57,8 @@ pub record MayFresh (s : Limits) (r q : ℕ) (t : Tables) : Type 0 where
 -- the rank has no near half and the receiver fewer than 8 far ones, the new halves have no places, and there is room for both
 pub record MayTwin (s : Limits) (r to : ℕ) (t : Tables) : Type 0 where
   pub known : to < s.ranks
-  pub alone : t.near r ≡ []
-  pub few : length (t.far to) < 8
+  pub alone : t.near r ≡ no_wires
+  pub few : t.held to < 8
   pub near_absent : ¬ IsPlaced t (near_made t r)
   pub far_absent : ¬ IsPlaced t (far_made t r)
   pub room : 2 ≤ s.wires
@@ -83,7 +87,7 @@ pub record MaySettle (r : ℕ) (f : Wire) (q : ℕ) (t : Tables) : Type 0 where
 abbrev pub MayDo : Limits → ℕ → Act → Tables → Type 0
 MayDo s r (Fresh q) t = MayFresh s r q t
 MayDo s r (Twin to) t = MayTwin s r to t
-MayDo s r (Apply l) t = MayLetter l t × (1 ≤ s.letters)
+MayDo s r (Apply l) t = MayLetter r l t × (1 ≤ s.letters)
 MayDo s r (SlotOut q m) t = MaySlotOut s r q t
 MayDo s r (NearOut m) t = MayHalfOut s (near_last t r) (NearOf r) t
 MayDo s r (FarOut f m) t = MayHalfOut s f (FarOf r) t

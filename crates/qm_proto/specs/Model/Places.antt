@@ -1,6 +1,7 @@
 -- Where wires are, and whose they are
-use Rattle.std.specs.Prelude.{◌≡◌, ℕ, Some, Contains}
+use Rattle.std.specs.Prelude.{◌≡◌, ℕ, Some, true}
 use Rattle.qm_denot.specs.declared.Wire.{Wire}
+use Rattle.qm_denot.specs.Wires.{has}
 use Rattle.qm_proto.specs.Model.State.{Tables}
 
 -- a place of a wire
@@ -12,8 +13,8 @@ pub data Place : Type 0 where
 -- the wire is at the place
 abbrev pub IsAt : Tables → Wire → Place → Type 0
 IsAt t w (InSlot r q) = t.slots r q ≡ Some w
-IsAt t w (NearOf r) = Contains (t.near r) w
-IsAt t w (FarOf r) = Contains (t.far r) w
+IsAt t w (NearOf r) = has (t.near r) w ≡ true
+IsAt t w (FarOf r) = has (t.far r) w ≡ true
 
 -- the wire has a place
 abbrev pub IsPlaced : Tables → Wire → Type 0

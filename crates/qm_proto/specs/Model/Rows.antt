@@ -15,28 +15,26 @@ use Rattle.qm_instr.specs.Lanes.{lane}
 use Rattle.qm_instr.specs.Programs.{Programs, rank_of}
 use Rattle.qm_proto.specs.declared.Event.{Event}
 use Rattle.qm_proto.specs.declared.Event.TheVariants as event
-use Rattle.qm_proto.specs.declared.Parcel.{Parcel}
+use Rattle.qm_denot.specs.declared.Parcel.{Parcel}
+use Rattle.qm_proto.specs.declared.Check.{Check}
+use Rattle.qm_proto.specs.declared.Check.TheVariants.{Possible, Zero, Equal, Fits}
+use Rattle.qm_proto.specs.declared.Row.{Row}
 use Rattle.qm_proto.specs.declared.Rule.{Rule}
 use Rattle.qm_proto.specs.declared.Rule.TheVariants.{Always, PairRoom, Engaged, Filled}
 use Rattle.qm_proto.specs.Model.State.{Tables, no_wire, wire_in, bit_of, own_next, protocol_next, far_made, near_last, front, wire_of, first_bit, second_bit}
-use Rattle.qm_proto.specs.Model.Acts.{Act, Fresh, Twin, Apply, SlotOut, NearOut, FarOut, Settle, Posts, Fills, Receives, OwnUsed, ProtocolUsed, FirstKept, BitSet}
+use Rattle.qm_proto.specs.declared.Act.{Act}
+use Rattle.qm_proto.specs.declared.Act.TheVariants.{Fresh, Twin, Apply, SlotOut, NearOut, FarOut, Settle, Posts, Fills, Receives, OwnUsed, ProtocolUsed, FirstKept, BitSet}
+use Rattle.qm_proto.specs.declared.Few.{Few}
+use Rattle.qm_proto.specs.declared.Few.TheVariants.{Empty, One, Two, Three}
 
--- a test of an event: where it fails, the event is refused
-pub data Check : Type 0 where
-  Possible : (w : Wire) (m : Bool) → Check  -- w can be m
-  Zero : (w : Wire) → Check  -- w is zero
-  Equal : (w v : Wire) → Check  -- w equals v
-  Fits : (w : Wire) → Check  -- the numbers after a `Had` of w fit
-
--- a line of the table: the event, what it waits for, its tests in the order in which they count, and its acts in their order
-pub record Row : Type 0 where
-  pub event : Event
-  pub rule : Rule
-  pub checks : List Check
-  pub acts : List Act
-
-abbrev pub row : Event → Rule → List Check → List Act → Row
+-- a line of the table
+abbrev pub row : Event → Rule → Few Check → Few Act → Row
 row e rule checks acts = record { event = e; rule = rule; checks = checks; acts = acts }
+
+-- what is there where the bit is one, and nothing else
+abbrev pub few_if : {A : Type 0} → Bool → Few A → Few A
+few_if true xs = xs
+few_if false xs = Empty
 
 -- the list where the bit is one, else none of it
 abbrev pub list_if : {A : Type 0} → Bool → List A → List A
@@ -44,8 +42,8 @@ list_if true xs = xs
 list_if false xs = []
 
 -- the act of a letter
-abbrev pub letter : Letter → List Act
-letter l = Apply l ∷ []
+abbrev pub letter : Letter → Few Act
+letter l = One (Apply l)
 
 -- the letter of a gate on the wire w
 abbrev pub one_letter : OneGate → Wire → Letter
@@ -64,9 +62,9 @@ gate_letter w (gate.Cx c q) = Cx (w c) (w q)
 gate_letter w (gate.Cz c q) = Cz (w c) (w q)
 
 -- the tests of a letter: a `Had` must fit
-abbrev pub letter_checks : Letter → List Check
-letter_checks (Had w) = Fits w ∷ []
-letter_checks _ = []
+abbrev pub letter_checks : Letter → Few Check
+letter_checks (Had w) = One (Fits w)
+letter_checks _ = Empty
 
 -- a parcel that carries the half f, and one that carries bits
 abbrev pub half : Wire → Parcel
@@ -95,69 +93,69 @@ source_wire p t d = wire_offered (wire_in t d) (current p t d)
 
 -- rank r's events for an instruction, each as the tables stand before it
 abbrev pub rows : Programs → Tables → ℕ → Instr → List Row
-rows p t r (instr.Alloc q) = row event.Alloc Always [] (Fresh q ∷ []) ∷ []
+rows p t r (instr.Alloc q) = row event.Alloc Always Empty (One (Fresh q)) ∷ []
 rows p t r (instr.Do g) =
     let l = gate_letter (wire_in t r) g in
     row event.Gate Always (letter_checks l) (letter l) ∷ []
-rows p t r (instr.Free q) = row event.Free Always (Zero (wire_in t r q) ∷ []) (SlotOut q false ∷ []) ∷ []
+rows p t r (instr.Free q) = row event.Free Always (One (Zero (wire_in t r q))) (One (SlotOut q false)) ∷ []
 rows p t r (instr.Measure q b) =
     let w = wire_in t r q in
     let m = own_next t r in
-    row event.Measure Always (Possible w m ∷ []) (OwnUsed ∷ Apply (Keep w m) ∷ BitSet b m ∷ []) ∷ []
-rows p t r (instr.Set b v) = row event.Set Always [] (BitSet b v ∷ []) ∷ []
-rows p t r (instr.Xor b c) = row event.Xor Always [] (BitSet b (differing (bit_of t r b) (bit_of t r c)) ∷ []) ∷ []
+    row event.Measure Always (One (Possible w m)) (Three OwnUsed (Apply (Keep w m)) (BitSet b m)) ∷ []
+rows p t r (instr.Set b v) = row event.Set Always Empty (One (BitSet b v)) ∷ []
+rows p t r (instr.Xor b c) = row event.Xor Always Empty (One (BitSet b (differing (bit_of t r b) (bit_of t r c)))) ∷ []
 rows p t r (instr.When b g) =
     let l = gate_letter (wire_in t r) g in
     let set = bit_of t r b in
-    row event.When Always (list_if set (letter_checks l)) (list_if set (letter l)) ∷ []
-rows p t r (instr.SendBit b to tag) = row event.SendBit Always [] (Posts (lane r to kind.Bit tag) (told (bit_of t r b)) ∷ []) ∷ []
+    row event.When Always (few_if set (letter_checks l)) (few_if set (letter l)) ∷ []
+rows p t r (instr.SendBit b to tag) = row event.SendBit Always Empty (One (Posts (lane r to kind.Bit tag) (told (bit_of t r b)))) ∷ []
 rows p t r (instr.RecvBit b from tag) =
     let a = lane from r kind.Bit tag in
-    row event.RecvBit (Filled a) [] (Receives a ∷ BitSet b (first_bit (front t a)) ∷ []) ∷ []
+    row event.RecvBit (Filled a) Empty (Two (Receives a) (BitSet b (first_bit (front t a)))) ∷ []
 rows p t r (instr.CopyTo q to tag) =
     let w = wire_in t r q in
     let e = near_last t r in
     let a = lane r to kind.Copy tag in
     let m = protocol_next t r in
-    row event.Pair (PairRoom a) [] (Twin to ∷ Posts a (half (far_made t r)) ∷ [])
-    ∷ row event.Cross Always [] (letter (Cx w e))
-    ∷ row event.Post Always [] (ProtocolUsed ∷ NearOut m ∷ Fills a (m, false) ∷ [])
+    row event.Pair (PairRoom a) Empty (Two (Twin to) (Posts a (half (far_made t r))))
+    ∷ row event.Cross Always Empty (letter (Cx w e))
+    ∷ row event.Post Always Empty (Three ProtocolUsed (NearOut m) (Fills a (m, false)))
     ∷ []
 rows p t r (instr.CopyFrom q from tag) =
     let a = lane from r kind.Copy tag in
     let x = (t.parts r).taken in
-    row event.Deliver (Filled a) [] (Receives a ∷ Settle (wire_of (front t a)) q ∷ [])
-    ∷ row event.FixX Always [] (list_if (first_bit x) (letter (Flip (wire_of x))))
+    row event.Deliver (Filled a) Empty (Two (Receives a) (Settle (wire_of (front t a)) q))
+    ∷ row event.FixX Always Empty (few_if (first_bit x) (letter (Flip (wire_of x))))
     ∷ []
 rows p t r (instr.UndoTo q to tag) =
     let w = wire_in t r q in
     let a = lane r to kind.Undo tag in
     let m = protocol_next t r in
-    row event.Test (Engaged a) (Equal w (source_wire p t to) ∷ Fits w ∷ []) (letter (Had w))
-    ∷ row event.Post Always [] (ProtocolUsed ∷ SlotOut q m ∷ Posts a (told m) ∷ [])
+    row event.Test (Engaged a) (Two (Equal w (source_wire p t to)) (Fits w)) (letter (Had w))
+    ∷ row event.Post Always Empty (Three ProtocolUsed (SlotOut q m) (Posts a (told m)))
     ∷ []
 rows p t r (instr.UndoFrom q from tag) =
     let a = lane from r kind.Undo tag in
-    row event.Deliver (Filled a) [] (Receives a ∷ [])
-    ∷ row event.FixZ Always [] (list_if (first_bit (t.parts r).taken) (letter (Phase 4 (wire_in t r q))))
+    row event.Deliver (Filled a) Empty (One (Receives a))
+    ∷ row event.FixZ Always Empty (few_if (first_bit (t.parts r).taken) (letter (Phase 4 (wire_in t r q))))
     ∷ []
 rows p t r (instr.MoveTo q to tag) =
     let w = wire_in t r q in
     let e = near_last t r in
     let a = lane r to kind.Move tag in
     let m = protocol_next t r in
-    row event.Pair (PairRoom a) [] (Twin to ∷ Posts a (half (far_made t r)) ∷ [])
-    ∷ row event.Cross Always [] (letter (Cx w e))
-    ∷ row event.Had Always (Fits w ∷ []) (letter (Had w))
-    ∷ row event.Near Always [] (ProtocolUsed ∷ NearOut m ∷ FirstKept m ∷ [])
-    ∷ row event.Post Always [] (ProtocolUsed ∷ SlotOut q m ∷ Fills a ((t.parts r).first, m) ∷ [])
+    row event.Pair (PairRoom a) Empty (Two (Twin to) (Posts a (half (far_made t r))))
+    ∷ row event.Cross Always Empty (letter (Cx w e))
+    ∷ row event.Had Always (One (Fits w)) (letter (Had w))
+    ∷ row event.Near Always Empty (Three ProtocolUsed (NearOut m) (FirstKept m))
+    ∷ row event.Post Always Empty (Three ProtocolUsed (SlotOut q m) (Fills a ((t.parts r).first, m)))
     ∷ []
 rows p t r (instr.MoveFrom q from tag) =
     let a = lane from r kind.Move tag in
     let x = (t.parts r).taken in
-    row event.Deliver (Filled a) [] (Receives a ∷ Settle (wire_of (front t a)) q ∷ [])
-    ∷ row event.FixX Always [] (list_if (first_bit x) (letter (Flip (wire_of x))))
-    ∷ row event.FixZ Always [] (list_if (second_bit x) (letter (Phase 4 (wire_of x))))
+    row event.Deliver (Filled a) Empty (Two (Receives a) (Settle (wire_of (front t a)) q))
+    ∷ row event.FixX Always Empty (few_if (first_bit x) (letter (Flip (wire_of x))))
+    ∷ row event.FixZ Always Empty (few_if (second_bit x) (letter (Phase 4 (wire_of x))))
     ∷ []
 rows p t r (instr.ReachTo q to tag) =
     let w = wire_in t r q in
@@ -165,11 +163,11 @@ rows p t r (instr.ReachTo q to tag) =
     let a = lane r to kind.Reach tag in
     let back = lane to r kind.Back tag in
     let m = protocol_next t r in
-    row event.Pair (PairRoom a) [] (Twin to ∷ Posts a (half (far_made t r)) ∷ [])
-    ∷ row event.Cross Always [] (letter (Cx w e))
-    ∷ row event.Post Always [] (ProtocolUsed ∷ NearOut m ∷ Fills a (m, false) ∷ [])
-    ∷ row event.Deliver (Filled back) [] (Receives back ∷ [])
-    ∷ row event.FixZ Always [] (list_if (first_bit (t.parts r).taken) (letter (Phase 4 w)))
+    row event.Pair (PairRoom a) Empty (Two (Twin to) (Posts a (half (far_made t r))))
+    ∷ row event.Cross Always Empty (letter (Cx w e))
+    ∷ row event.Post Always Empty (Three ProtocolUsed (NearOut m) (Fills a (m, false)))
+    ∷ row event.Deliver (Filled back) Empty (One (Receives back))
+    ∷ row event.FixZ Always Empty (few_if (first_bit (t.parts r).taken) (letter (Phase 4 w)))
     ∷ []
 rows p t r (instr.ReachFrom q from tag) =
     let a = lane from r kind.Reach tag in
@@ -177,9 +175,9 @@ rows p t r (instr.ReachFrom q from tag) =
     let x = (t.parts r).taken in
     let f = wire_of x in
     let m = protocol_next t r in
-    row event.Deliver (Filled a) [] (Receives a ∷ [])
-    ∷ row event.FixX Always [] (list_if (first_bit x) (letter (Flip f)))
-    ∷ row event.Cross Always [] (letter (Cx f (wire_in t r q)))
-    ∷ row event.Had Always (Fits f ∷ []) (letter (Had f))
-    ∷ row event.Post Always [] (ProtocolUsed ∷ FarOut f m ∷ Posts back (told m) ∷ [])
+    row event.Deliver (Filled a) Empty (One (Receives a))
+    ∷ row event.FixX Always Empty (few_if (first_bit x) (letter (Flip f)))
+    ∷ row event.Cross Always Empty (letter (Cx f (wire_in t r q)))
+    ∷ row event.Had Always (One (Fits f)) (letter (Had f))
+    ∷ row event.Post Always Empty (Three ProtocolUsed (FarOut f m) (Posts back (told m)))
     ∷ []

@@ -8,15 +8,18 @@ use Rattle.qm_denot.specs.Stores.{IsReducedForm, LeavesRange}
 use Rattle.qm_instr.specs.declared.Instr.{Instr}
 use Rattle.qm_instr.specs.declared.Lane.{Lane}
 use Rattle.qm_instr.specs.Counts.{events_of}
-use Rattle.qm_instr.specs.Lanes.{lane_received}
+use Rattle.qm_instr.specs.Lanes.{lane_received, is_on}
 use Rattle.qm_instr.specs.Programs.{Programs, rank_of}
 use Rattle.qm_proto.specs.declared.Cause.{Cause}
 use Rattle.qm_proto.specs.declared.Cause.TheVariants as cause
 use Rattle.qm_proto.specs.declared.Rule.{Rule}
 use Rattle.qm_proto.specs.declared.Rule.TheVariants.{Always, PairRoom, Engaged, Filled}
-use Rattle.qm_proto.specs.Model.State.{Part, Tables, State, is_lane, with_part, front}
-use Rattle.qm_proto.specs.Model.Acts.{all_done, all_letters}
-use Rattle.qm_proto.specs.Model.Rows.{Check, Possible, Zero, Equal, Fits, Row, current, rows}
+use Rattle.qm_proto.specs.Model.State.{Part, Tables, State, with_part, front}
+use Rattle.qm_proto.specs.Model.Acts.{list_of, all_done, all_letters}
+use Rattle.qm_proto.specs.declared.Check.{Check}
+use Rattle.qm_proto.specs.declared.Check.TheVariants.{Possible, Zero, Equal, Fits}
+use Rattle.qm_proto.specs.declared.Row.{Row}
+use Rattle.qm_proto.specs.Model.Rows.{current, rows}
 
 -- the line of the table at which rank r stands, where it has an event left
 abbrev pub row_in : Programs → Tables → ℕ → Option Instr → Option Row
@@ -30,11 +33,6 @@ row_next p t r = row_in p t r (current p t r)
 abbrev pub has_event : Programs → Tables → ℕ → Bool
 has_event p t r = is_some (row_next p t r)
 
--- whether lane a is the one, where there is one
-abbrev pub is_on : Option Lane → Lane → Bool
-is_on None a = false
-is_on (Some b) a = is_lane b a
-
 -- whether an instruction of rank r, where there is one, is a receive of lane a
 abbrev pub receives_on : ℕ → Option Instr → Lane → Bool
 receives_on r None a = false
@@ -47,7 +45,7 @@ is_wanted p t a =
 
 -- a rank's near halves, and the far halves sent to it that no receive has put into a slot or measured yet
 abbrev pub halves : Tables → ℕ → ℕ
-halves t r = length (t.near r) + length (t.far r)
+halves t r = t.held r
 
 -- whether what the rule asks for is so
 abbrev pub holds : Programs → Tables → Rule → Bool
@@ -90,7 +88,7 @@ NoneFails g (k ∷ ks) = (¬ (Fails g k)) × NoneFails g ks
 
 abbrev pub row_checks : Option Row → List Check
 row_checks None = []
-row_checks (Some w) = w.checks
+row_checks (Some w) = list_of w.checks
 
 -- the next event of rank r is refused for this cause
 abbrev pub IsRefused : Programs → State → ℕ → Cause → Type 0
@@ -111,11 +109,11 @@ events_at (Some i) = events_of i
 
 abbrev pub row_done : ℕ → ℕ → Option Row → Tables → Tables
 row_done n r None t = t
-row_done n r (Some w) t = let u = all_done r w.acts t in with_part u r (moved_on n (u.parts r))
+row_done n r (Some w) t = let u = all_done r (list_of w.acts) t in with_part u r (moved_on n (u.parts r))
 
 abbrev pub row_letters : ℕ → Option Row → Tables → List Letter
 row_letters r None t = []
-row_letters r (Some w) t = all_letters r w.acts t
+row_letters r (Some w) t = all_letters r (list_of w.acts) t
 
 -- the tables after the next event of rank r
 abbrev pub next_tables : Programs → Tables → ℕ → Tables

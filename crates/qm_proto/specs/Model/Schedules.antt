@@ -1,5 +1,6 @@
 -- Schedules: what they leave, which of them are legal, and how a run ends
 use Rattle.std.specs.Prelude.{◌≡◌, ℕ, ◌<◌, ◌⊎◌, true, false, List, [], ◌∷◌, None, length, map, fold, sum_by, replicate}
+use Rattle.qm_denot.specs.Wires.{no_wires}
 use Rattle.qm_instr.specs.Counts.{protocol_of}
 use Rattle.qm_instr.specs.Programs.{Programs, RankProgram, rank_of}
 use Rattle.qm_proto.specs.declared.Cause.{Cause}
@@ -14,7 +15,7 @@ part_at_start x =
 -- no wire, no parcel, and each rank before its first event
 abbrev pub tables_at_start : Programs → Tables
 tables_at_start p =
-    record { parts = λ r. part_at_start (rank_of p r); slots = λ r q. None; near = λ r. []; far = λ r. []; lanes = λ a. [] }
+    record { parts = λ r. part_at_start (rank_of p r); slots = λ r q. None; near = λ r. no_wires; far = λ r. no_wires; held = λ r. 0; lanes = λ a. [] }
 
 abbrev pub state_at_start : Programs → State
 state_at_start p = record { tables = tables_at_start p; circuit = [] }

@@ -1,11 +1,11 @@
 -- The state of a run, and the words by which it is read
 use Rattle.std.specs.Prelude.{ℕ, ◌-◌, nat_eq, Bool, true, false, ◌&&◌, if◌then◌else◌, List, Option, None, unwrap_or, slice_index_or}
 use Rattle.qm_denot.specs.declared.Wire.{Wire}
+use Rattle.qm_denot.specs.Wires.{Wires}
 use Rattle.qm_denot.specs.Circuits.{Circuit}
-use Rattle.qm_instr.specs.declared.Kind.{Kind}
-use Rattle.qm_instr.specs.declared.Kind.TheVariants as kind
 use Rattle.qm_instr.specs.declared.Lane.{Lane}
-use Rattle.qm_proto.specs.declared.Parcel.{Parcel}
+use Rattle.qm_instr.specs.Lanes.{is_lane}
+use Rattle.qm_denot.specs.declared.Parcel.{Parcel}
 
 -- one rank, but for its wires
 pub record Part : Type 0 where
@@ -22,8 +22,9 @@ pub record Part : Type 0 where
 pub record Tables : Type 0 where
   pub parts : ℕ → Part
   pub slots : ℕ → ℕ → Option Wire  -- the wire in a rank's slot
-  pub near : ℕ → List Wire  -- a rank's near halves
-  pub far : ℕ → List Wire  -- the far halves sent to a rank that no receive has put into a slot or measured yet
+  pub near : ℕ → Wires  -- a rank's near halves
+  pub far : ℕ → Wires  -- the far halves sent to a rank that no receive has put into a slot or measured yet
+  pub held : ℕ → ℕ  -- how many halves a rank holds, near and far
   pub lanes : Lane → List Parcel  -- the front parcel first
 
 -- the tables, and the circuit of the letters done
@@ -38,20 +39,6 @@ with_at f r v k = if nat_eq k r then v else f k
 -- the slots with v in slot q of rank r
 abbrev pub with_slot : (ℕ → ℕ → Option Wire) → ℕ → ℕ → Option Wire → (ℕ → ℕ → Option Wire)
 with_slot f r q v k p = if nat_eq k r && nat_eq p q then v else f k p
-
--- whether two kinds are the same
-abbrev pub is_kind : Kind → Kind → Bool
-is_kind kind.Bit kind.Bit = true
-is_kind kind.Copy kind.Copy = true
-is_kind kind.Move kind.Move = true
-is_kind kind.Undo kind.Undo = true
-is_kind kind.Reach kind.Reach = true
-is_kind kind.Back kind.Back = true
-is_kind _ _ = false
-
--- whether two lanes are the same
-unfoldable pub is_lane : Lane → Lane → Bool
-is_lane a b = nat_eq a.from b.from && (nat_eq a.to b.to && (is_kind a.kind b.kind && nat_eq a.tag b.tag))
 
 -- f with v at lane a
 abbrev pub with_lane : {A : Type 0} → (Lane → A) → Lane → A → (Lane → A)

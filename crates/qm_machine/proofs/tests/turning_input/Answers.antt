@@ -3,21 +3,8 @@ use Rattle.std.proofs.lemmas.List.Elements.{All-nil, All-cons, All-push}
 use Rattle.qm_check.specs.Checks.{capacity_of}
 use Rattle.qm_instr.specs.declared.Instr.{Instr}
 use Rattle.qm_instr.specs.Programs.{Programs, RankProgram, idle_rank, instruction_total, with_instruction}
-use Rattle.qm_machine.specs.Built.{is_built, IsRankBuilt, IsBuilt}
 use Rattle.qm_machine.proofs.tests.turning_input.Invariants.{make, had, turn, turned, first_does}
 use Rattle.qm_machine.proofs.tests.turning_input.Goals as goal
-
-abbrev Built : Instr → Type 0
-Built i = is_built i ≡ true
-
-turned_built : (n : ℕ) → All Built (turned n)
-turned_built zero = All-cons Built make [] refl (All-nil Built)
-turned_built (suc n) = All-push Built (turned n ++ had ∷ []) turn (All-push Built (turned n) had (turned_built n) refl) refl
-
-does_built : (n : ℕ) → IsBuilt (first_does (turned n))
-does_built n =
-    All-cons IsRankBuilt (record idle_rank { instructions = turned n }) (idle_rank ∷ []) (turned_built n)
-    (All-cons IsRankBuilt idle_rank [] (All-nil Built) (All-nil IsRankBuilt))
 
 turned_length : (n : ℕ) → length (turned n) ≡ 1 + 2 * n
 turned_length zero = refl
@@ -44,8 +31,5 @@ push-requires-in-loop-2-clause-few c = omega (arith, c.in_ok-push-2.ensures.tota
 pub loop-preserved : goal.loop-preserved
 loop-preserved c = rw (c.in_ok-push-3.ensures.ok, c.in_ok-push-2.ensures.ok, c.loop.invariant, add-one) refl
 
-pub returns-clause-built : goal.returns-clause-built
-returns-clause-built c = rw c.loop.invariant (does_built c.loop.counter)
-
-pub returns-clause-narrow : goal.returns-clause-narrow
-returns-clause-narrow c = rw c.loop.invariant refl
+pub returns : goal.returns
+returns c = rw c.loop.invariant refl

@@ -2,7 +2,7 @@ use Rattle.std.proofs.Common.{◌≡◌, refl, arith, ◌∙◌}
 use Rattle.qm_denot.specs.declared.Letter.TheVariants.{Cz}
 use Rattle.qm_denot.specs.Wires.{Wires}
 use Rattle.qm_denot.specs.Circuits.{with_letter}
-use Rattle.qm_denot.specs.Plain.{plain_value}
+use Rattle.qm_denot.specs.ListStores.{listed_value}
 use Rattle.qm_denot.proofs.PlaceBounds.{size_small, size_fits}
 use Rattle.qm_denot.proofs.KeepingLaws.{cz_value, cz_before, keeps_turned, does_turned}
 use Rattle.qm_denot.proofs.plain.PlainAmps.cz.Goals as goal
@@ -16,7 +16,7 @@ rewrite-requires-clause-room c = let s = c.args.self.now in size_fits _ _ _ _ s.
 
 -- the values after the letter
 values : (c : After-rewrite) (x : Wires)
-    → plain_value c.args.self.now.live.items c.rewrite.new.numerators.items x ≡ with_letter (Cz c.args.c c.args.t) (plain_value c.args.self.now.live.items c.args.self.now.numerators.items) x
+    → listed_value c.args.self.now.live.items c.rewrite.new.numerators.items x ≡ with_letter (Cz c.args.c c.args.t) (listed_value c.args.self.now.live.items c.args.self.now.numerators.items) x
 values c =
     let s = c.args.self.now in
     cz_value s.live.items s.numerators.items c.rewrite.new.numerators.items s.kept.distinct s.size c.place_of-one.result c.place_of-other.result c.args.c c.args.t

@@ -6,7 +6,9 @@ use Rattle.qm_denot.specs.Wires.{Wires}
 use Rattle.std.proofs.lemmas.Bool.{false≢true}
 use Rattle.qm_zomega.specs.Range.{FitsZw}
 use Rattle.qm_denot.specs.Circuits.{with_letter}
-use Rattle.qm_denot.specs.Plain.{plain_value, number_at, had_number, Reduces}
+use Rattle.qm_denot.specs.LettersByPlace.{had_at}
+use Rattle.qm_denot.specs.ListStores.{listed_value}
+use Rattle.qm_zomega.specs.NumberLists.{number_at, Reduces}
 use Rattle.qm_denot.proofs.PlaceBounds.{size_small, size_fits}
 use Rattle.qm_denot.proofs.KeepingLaws.{value_had, keeps_reduced, does_reduced}
 use Rattle.qm_denot.proofs.OverflowLaws.{overflows_where_unfit, never_overflows}
@@ -23,12 +25,12 @@ fill_had-requires-clause-room c = let s = c.args.self.now in rw c.deref-2.ensure
 size : (c : After-swap) → length c.swap.new.x.items ≡ length c.args.self.now.numerators.items
 size c = ap (λ v. length v.items) c.swap.ensures.x_after ∙ c.in_ok-fill_had.ensures.size ∙ ap length c.deref-2.ensures.value
 
-numbers : (c : After-swap) (k : ℕ) → k < length c.args.self.now.numerators.items → number_at c.swap.new.x.items k ≡ had_number c.args.self.now.numerators.items c.place_of-place.result k
+numbers : (c : After-swap) (k : ℕ) → k < length c.args.self.now.numerators.items → number_at c.swap.new.x.items k ≡ had_at c.place_of-place.result (number_at c.args.self.now.numerators.items) k
 numbers c k h = ap (λ v. number_at v.items k) c.swap.ensures.x_after ∙ (rw c.deref-2.ensures.value at c.in_ok-fill_had.ensures.numbers) k h
 
 -- the values after the letter, before the division by root2
 values : (c : After-swap) (x : Wires)
-    → plain_value c.args.self.now.live.items c.swap.new.x.items x ≡ with_letter (Had c.args.w) (plain_value c.args.self.now.live.items c.args.self.now.numerators.items) x
+    → listed_value c.args.self.now.live.items c.swap.new.x.items x ≡ with_letter (Had c.args.w) (listed_value c.args.self.now.live.items c.args.self.now.numerators.items) x
 values c =
     let s = c.args.self.now in
     value_had s.live.items s.numerators.items c.swap.new.x.items s.kept.distinct s.size c.place_of-place.result c.args.w (rw c.deref.ensures.value at c.place_of-place.ensures.first) (numbers c)
@@ -70,7 +72,7 @@ pub returns-clause-overflow : goal.returns-clause-overflow
 returns-clause-overflow c =
     let s = c.args.self.now in
     let first = rw c.deref.ensures.value at c.place_of-place.ensures.first in
-    let fits : (k : ℕ) → k < length s.numerators.items → FitsZw (had_number s.numerators.items c.place_of-place.result k) = (rw c.deref-2.ensures.value at c.in_ok-fill_had.ensures.fits) refl in
+    let fits : (k : ℕ) → k < length s.numerators.items → FitsZw (had_at c.place_of-place.result (number_at s.numerators.items) k) = (rw c.deref-2.ensures.value at c.in_ok-fill_had.ensures.fits) refl in
     ((λ h. absurd (false≢true h)), (λ over. absurd (never_overflows s.live.items s.numerators.items s.kept.distinct s.size c.place_of-place.result c.args.w first s.capacity s.exponent fits over)))
 
 pub returns-in_err-fill_had-clause-overflow : goal.returns-in_err-fill_had-clause-overflow

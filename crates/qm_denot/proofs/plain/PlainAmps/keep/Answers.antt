@@ -4,7 +4,8 @@ use Rattle.std.proofs.lemmas.List.{with_items_is}
 use Rattle.qm_denot.specs.declared.Letter.TheVariants.{Keep}
 use Rattle.qm_denot.specs.Wires.{Wires}
 use Rattle.qm_denot.specs.Circuits.{with_letter}
-use Rattle.qm_denot.specs.Plain.{plain_value, Reduces}
+use Rattle.qm_denot.specs.ListStores.{listed_value}
+use Rattle.qm_zomega.specs.NumberLists.{Reduces}
 use Rattle.qm_denot.proofs.PlaceBounds.{size_small, size_fits}
 use Rattle.qm_denot.proofs.KeepingLaws.{keep_value, keeps_reduced, does_reduced}
 use Rattle.qm_denot.proofs.plain.PlainAmps.keep.Goals as goal
@@ -18,7 +19,7 @@ rewrite-requires-clause-room c = let s = c.args.self.now in size_fits _ _ _ _ s.
 
 -- the values after the letter, before the division by root2
 values : (c : After-rewrite) (x : Wires)
-    → plain_value c.args.self.now.live.items c.rewrite.new.numerators.items x ≡ with_letter (Keep c.args.w c.args.m) (plain_value c.args.self.now.live.items c.args.self.now.numerators.items) x
+    → listed_value c.args.self.now.live.items c.rewrite.new.numerators.items x ≡ with_letter (Keep c.args.w c.args.m) (listed_value c.args.self.now.live.items c.args.self.now.numerators.items) x
 values c =
     let s = c.args.self.now in
     keep_value s.live.items s.numerators.items c.rewrite.new.numerators.items s.kept.distinct s.size c.place_of-place.result c.args.w c.args.m

@@ -2,7 +2,7 @@ use Rattle.std.proofs.Common.{◌≡◌, ◌<◌, cond, true, length, arith, sym
 use Rattle.qm_zomega.specs.Numbers.{zero_number}
 use Rattle.qm_denot.specs.WireLists.{wires_of}
 use Rattle.qm_denot.specs.Places.{index_of, is_within}
-use Rattle.qm_denot.specs.Plain.{number_at}
+use Rattle.qm_zomega.specs.NumberLists.{number_at}
 use Rattle.qm_denot.proofs.Numerators.{number_read}
 use Rattle.qm_denot.proofs.plain.PlainAmpsAmps.value.Goals as goal
 

@@ -1,7 +1,7 @@
 use Rattle.std.proofs.Common.{◌≡◌, ℕ, ◌<◌}
 use Rattle.qm_zomega.specs.Numbers.{zero_number}
 use Rattle.qm_denot.specs.Places.{has_place}
-use Rattle.qm_denot.specs.Plain.{number_at}
+use Rattle.qm_zomega.specs.NumberLists.{number_at}
 use Rattle.qm_denot.proofs.plain.branches.any_with.Given as goal
 
 abbrev pub invariant-loop-k : goal.invariant-loop-k

@@ -1,6 +1,7 @@
 use Rattle.std.proofs.Common.{◌≡◌, ℕ, ◌<◌, ◌≤◌, length}
 use Rattle.std.specs.Vec.{vec_capacity}
-use Rattle.qm_denot.specs.Plain.{number_at, number_after}
+use Rattle.qm_denot.specs.Plain.{number_after}
+use Rattle.qm_zomega.specs.NumberLists.{number_at}
 use Rattle.qm_denot.proofs.plain.rules.fill.Given as goal
 
 abbrev pub invariant-loop-k : goal.invariant-loop-k

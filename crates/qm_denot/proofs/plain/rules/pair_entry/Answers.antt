@@ -2,7 +2,7 @@ use Rattle.std.proofs.Common.{◌≡◌, ◌*◌, ℕ, ◌+◌, ◌<◌, ◌≤�
 use Rattle.std.proofs.Math.Pow.{pow_mono}
 use Rattle.qm_denot.specs.Circuits.{same_bit}
 use Rattle.qm_denot.specs.Places.{has_place, set_place}
-use Rattle.qm_denot.specs.Plain.{number_at}
+use Rattle.qm_zomega.specs.NumberLists.{number_at}
 use Rattle.qm_denot.proofs.Bits.{same_bit-equal}
 use Rattle.qm_denot.proofs.Numerators.{number_here}
 use Rattle.qm_denot.proofs.PlaceBounds.{places_few}

@@ -3,7 +3,8 @@ use Rattle.qm_zomega.specs.Numbers.{◌⊕◌, ◌⊖◌}
 use Rattle.qm_zomega.specs.Range.{FitsZw}
 use Rattle.qm_zomega.specs.Zw.{value_of}
 use Rattle.qm_denot.specs.Places.{has_place}
-use Rattle.qm_denot.specs.Plain.{had_number}
+use Rattle.qm_denot.specs.LettersByPlace.{had_at}
+use Rattle.qm_zomega.specs.NumberLists.{number_at}
 use Rattle.qm_denot.proofs.PlaceBounds.{place_fits, set_place_within}
 use Rattle.qm_denot.proofs.Numerators.{number_read}
 use Rattle.qm_denot.proofs.plain.vectors.had_entry.Goals as goal
@@ -36,14 +37,14 @@ offset_bounds-from-with_bit-else-bit_at c = omega (arith, high c)
 pub bounds-from-with_bit-else-bit_at : goal.bounds-from-with_bit-else-bit_at
 bounds-from-with_bit-else-bit_at c = high c
 
-difference : (c : After-sub) → value_of c.index-from-with_bit.result ⊖ value_of c.index-from-k.result ≡ had_number c.args.from.now c.args.place c.args.k
+difference : (c : After-sub) → value_of c.index-from-with_bit.result ⊖ value_of c.index-from-k.result ≡ had_at c.args.place (number_at c.args.from.now) c.args.k
 difference c =
     let one : has_place c.args.place c.args.k ≡ true = sym c.bit_at.ensures ∙ c.if-bit_at.true in
     let below = number_read c.args.from.now c.with_bit.result _ c.index-from-with_bit.result c.with_bit.ensures (set_place_within _ c.args.place c.args.k _ false c.requires.place c.requires.within c.with_bit.ensures) c.index-from-with_bit.is in
     let here = number_read c.args.from.now c.args.k c.args.k c.index-from-k.result refl c.requires.within c.index-from-k.is in
     rw (one, below, here) refl
 
-sum : (c : After-add) → value_of c.index-from-k-else-bit_at.result ⊕ value_of c.index-from-with_bit-else-bit_at.result ≡ had_number c.args.from.now c.args.place c.args.k
+sum : (c : After-add) → value_of c.index-from-k-else-bit_at.result ⊕ value_of c.index-from-with_bit-else-bit_at.result ≡ had_at c.args.place (number_at c.args.from.now) c.args.k
 sum c =
     let none : has_place c.args.place c.args.k ≡ false = sym c.bit_at.ensures ∙ c.if-bit_at.false in
     let above = number_read c.args.from.now c.with_bit-else-bit_at.result _ c.index-from-with_bit-else-bit_at.result c.with_bit-else-bit_at.ensures (set_place_within _ c.args.place c.args.k _ true c.requires.place c.requires.within c.with_bit-else-bit_at.ensures) c.index-from-with_bit-else-bit_at.is in

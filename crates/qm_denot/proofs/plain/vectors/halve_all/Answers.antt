@@ -2,7 +2,7 @@ use Rattle.std.proofs.Common.{◌≡◌, inl, inr, sym, ap, subst, ◌∙◌, ar
 use Rattle.qm_zomega.specs.Numbers.{IsDivisible, root2_of}
 use Rattle.qm_zomega.specs.Zw.{value_of}
 use Rattle.qm_zomega.proofs.Laws.Powers.{root2-zero}
-use Rattle.qm_denot.specs.Plain.{number_at}
+use Rattle.qm_zomega.specs.NumberLists.{number_at}
 use Rattle.qm_denot.proofs.Numerators.{number_here, number_past, side, number_at-set_same, number_at-set_other}
 use Rattle.qm_denot.proofs.plain.vectors.halve_all.Goals as goal
 use Rattle.qm_denot.proofs.plain.vectors.halve_all.Goals.{After-index-numerators-k}

@@ -1,6 +1,6 @@
 use Rattle.std.proofs.Common.{◌≡◌, ℕ, ◌≤◌, ◌-◌}
 use Rattle.qm_zomega.specs.Numbers.{root2_times}
-use Rattle.qm_denot.specs.Plain.{number_at}
+use Rattle.qm_zomega.specs.NumberLists.{number_at}
 use Rattle.qm_denot.proofs.plain.vectors.reduce.Given as goal
 
 abbrev pub invariant-loop-exponent : goal.invariant-loop-exponent

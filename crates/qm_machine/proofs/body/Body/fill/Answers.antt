@@ -1,16 +1,18 @@
-use Rattle.std.proofs.Common.{ap, refl}
-use Rattle.qm_machine.specs.Views.{MailView, facts, tables_of}
+use Rattle.std.proofs.Common.{ap, refl, ◌∙◌}
+use Rattle.qm_machine.specs.Views.{MailView, facts, mail_of, tables_of}
+use Rattle.qm_machine.proofs.MailTables.{mail_changed, known_to_fill}
 use Rattle.qm_machine.proofs.Squares.{did_fill}
 use Rattle.qm_machine.proofs.body.Body.fill.Goals as goal
 
 pub fill-requires : goal.fill-requires
 unfolding facts
-fill-requires g c = c.requires.may.0
+fill-requires g c = c.requires
 
 pub returns : goal.returns
 unfolding facts
-returns g c =
-    let mail = c.fill.ensures in
-    did_fill _ _ c.args._rank
+returns g c r can =
+    let m = c.args.self.now.mail in
+    let mail = ap mail_of c.fill.ensures ∙ mail_changed m c.args.lane _ (known_to_fill m c.args.lane c.requires) in
+    did_fill _ _ r
     (record { store = refl; parcels = ap (λ (m : MailView). m.parcels) mail; ranks = refl; letters = refl; paulis = refl })
-    c.args.lane c.args.bits c.requires (ap (tables_of c.args.self.now.ranks.items) mail)
+    c.args.lane c.args.bits can (ap (tables_of c.args.self.now.ranks.items) mail)

@@ -1,6 +1,6 @@
 use Rattle.std.proofs.Common.{◌∙◌, ap, refl, arith, length-set, append-nil}
-use Rattle.qm_machine.specs.Views.{RankView, facts, mail_of, tables_of}
-use Rattle.qm_machine.proofs.RankTables.{fresh_view, view_read, tables_changed, fresh_changed}
+use Rattle.qm_machine.specs.Views.{RankView, facts, mail_of, tables_of, fresh_view}
+use Rattle.qm_machine.proofs.RankTables.{view_read, tables_changed, fresh_changed}
 use Rattle.qm_machine.proofs.Squares.{did_fresh}
 use Rattle.qm_machine.proofs.body.Body.fresh.Goals as goal
 

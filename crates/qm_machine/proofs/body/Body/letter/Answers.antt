@@ -16,7 +16,7 @@ at_most_one false = omega arith
 
 pub apply-requires-clause-may : goal.apply-requires-clause-may
 unfolding facts
-apply-requires-clause-may g c = may_apply _ c.args.letter c.requires.can.sound c.requires.grow c.requires.can.may.0.0
+apply-requires-clause-may g c = may_apply _ c.args.rank c.args.letter c.requires.can.sound c.requires.grow c.requires.can.may.0.0
 
 pub overflow_add-self : goal.overflow_add-self
 unfolding facts

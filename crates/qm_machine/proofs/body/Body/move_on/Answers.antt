@@ -2,8 +2,8 @@ use Rattle.std.proofs.Common.{◌∙◌, ℕ, length, slice_set, ap, arith, leng
 use Rattle.qm_proto.specs.Model.State.{Tables, with_part}
 use Rattle.qm_proto.specs.Model.Runs.{moved_on}
 use Rattle.qm_machine.specs.Facts.{Facts}
-use Rattle.qm_machine.specs.Views.{RankView, facts, mail_of, tables_of}
-use Rattle.qm_machine.proofs.RankTables.{part_view, view_read, tables_changed, part_changed}
+use Rattle.qm_machine.specs.Views.{RankView, facts, mail_of, tables_of, part_view}
+use Rattle.qm_machine.proofs.RankTables.{view_read, tables_changed, part_changed}
 use Rattle.qm_machine.proofs.body.Body.move_on.Goals as goal
 
 pub index_mut-requires : goal.index_mut-requires

@@ -1,6 +1,7 @@
-use Rattle.std.proofs.Common.{◌∙◌, refl, arith, length-set}
-use Rattle.qm_machine.specs.Views.{facts, mail_of, tables_of}
-use Rattle.qm_machine.proofs.RankTables.{dropped_view, tables_changed, dropped_changed}
+use Rattle.std.proofs.Common.{◌≡◌, ◌∙◌, true, ap, refl, arith, length-set}
+use Rattle.qm_denot.specs.Wires.{has}
+use Rattle.qm_machine.specs.Views.{RankView, facts, view_of, mail_of, tables_of, dropped_view}
+use Rattle.qm_machine.proofs.RankTables.{view_read, tables_changed, dropped_changed}
 use Rattle.qm_machine.proofs.Squares.{near_lives, did_near_out}
 use Rattle.qm_machine.proofs.body.Body.near_out.Goals as goal
 
@@ -26,8 +27,11 @@ returns g c =
     let w = c.near_last-w.result in
     let old = c.index_mut.result.now in
     let new = c.drop_near.new.self in
+    let read = view_read ranks c.from.result r old c.from.ensures c.requires.can.known c.index_mut.ensures.value in
+    let here : has (t.near r) w ≡ true = rw c.near_last-w.ensures c.requires.can.may.0.only.here in
+    let half : has (view_of old).near w ≡ true = ap (λ (x : RankView). has x.near w) read ∙ here in
     let tables =
-    tables_changed ranks mail c.from.result r old new (dropped_view w) c.from.ensures c.requires.can.known c.index_mut.ensures.value c.drop_near.ensures in
+    tables_changed ranks mail c.from.result r old new (dropped_view w) c.from.ensures c.requires.can.known c.index_mut.ensures.value (c.drop_near.ensures w half) in
     let is = c.near_last-w.ensures in
     let stands = c.do_letter.ensures.stands in
     let live = c.do_letter.ensures.live in

@@ -1,19 +1,15 @@
-use Rattle.std.proofs.Common.{◌≢◌, ◌<◌, ◌∙◌, List, [], ◌∷◌, None, length, drop, slice_index_or, ap, refl, arith, length-set}
-use Rattle.qm_proto.specs.declared.Parcel.{Parcel}
-use Rattle.qm_proto.specs.Model.State.{Part, no_parcel, with_part}
-use Rattle.qm_machine.specs.Views.{MailView, facts, mail_of, with_parcels, tables_of}
-use Rattle.qm_machine.proofs.RankTables.{part_view, tables_changed, part_changed}
+use Rattle.std.proofs.Common.{◌∙◌, drop, ap, refl, arith, length-set}
+use Rattle.qm_denot.specs.declared.Parcel.{Parcel}
+use Rattle.qm_proto.specs.Model.State.{Part, with_part}
+use Rattle.qm_machine.specs.Views.{MailView, facts, mail_of, with_mail, tables_of, part_view}
+use Rattle.qm_machine.proofs.RankTables.{tables_changed, part_changed}
+use Rattle.qm_machine.proofs.MailTables.{mail_changed, known_to_take, bits_there, front_read}
 use Rattle.qm_machine.proofs.Squares.{did_receive}
 use Rattle.qm_machine.proofs.body.Body.receive.Goals as goal
 
--- a front parcel with bits is there
-some_front : (xs : List Parcel) → (slice_index_or xs 0 no_parcel).bits ≢ None → 0 < length xs
-some_front [] bits = absurd (bits refl)
-some_front (x ∷ xs) bits = omega arith
-
 pub take-parcel-requires : goal.take-parcel-requires
 unfolding facts
-take-parcel-requires g c = some_front _ c.requires.may.0
+take-parcel-requires g c = bits_there _ c.requires.may.0
 
 pub index_mut-requires : goal.index_mut-requires
 unfolding facts
@@ -24,7 +20,9 @@ unfolding facts
 returns g c =
     let ranks = c.args.self.now.ranks.items in
     let mail = mail_of c.args.self.now.mail in
-    let rest = c.take-parcel.ensures.rest in
+    let m = c.args.self.now.mail in
+    let known = known_to_take m c.args.lane (bits_there _ c.requires.may.0) in
+    let rest = ap mail_of c.take-parcel.ensures.rest ∙ mail_changed m c.args.lane _ known in
     let r = c.args.rank in
     let old = c.index_mut.result.now in
     let new = c.receive.new.self in
@@ -38,4 +36,4 @@ returns g c =
     (tables_changed ranks later c.from.result r old new (part_view (taken parcel)) c.from.ensures c.requires.known c.index_mut.ensures.value c.receive.ensures
     ∙ part_changed (tables_of ranks later) r (taken parcel)
     ∙ ap (λ (m : MailView). received m parcel) rest
-    ∙ ap (received (with_parcels mail c.args.lane (drop 1 (mail.lanes c.args.lane)))) c.take-parcel.ensures.front)
+    ∙ ap (received (with_mail mail c.args.lane (drop 1 (mail.lanes c.args.lane)))) (front_read _ parcel c.take-parcel.ensures.front))

@@ -1,7 +1,7 @@
-use Rattle.std.proofs.Common.{◌∙◌, ap, refl, drop, length, arith, length-set, slice_index_or, false}
+use Rattle.std.proofs.Common.{◌∙◌, ap, refl, drop, length, arith, length-set}
 use Rattle.qm_proto.specs.Model.State.{Part}
-use Rattle.qm_machine.specs.Views.{RankView, facts, mail_of, tables_of}
-use Rattle.qm_machine.proofs.RankTables.{part_view, view_read, tables_changed, part_changed}
+use Rattle.qm_machine.specs.Views.{RankView, facts, mail_of, tables_of, part_view}
+use Rattle.qm_machine.proofs.RankTables.{view_read, tables_changed, part_changed}
 use Rattle.qm_machine.proofs.Squares.{did_use}
 use Rattle.qm_machine.proofs.body.Body.use_protocol.Goals as goal
 
@@ -17,21 +17,15 @@ use_protocol-requires g c =
     let h = c.requires.may.0 in
     rw left h
 
-pub returns-clause-value : goal.returns-clause-value
+pub returns : goal.returns
 unfolding facts
-returns-clause-value g c =
-    let read = view_read c.args.self.now.ranks.items c.from.result c.args.rank c.index_mut.result.now c.from.ensures c.requires.known c.index_mut.ensures.value in
-    c.use_protocol.ensures.value ∙ ap (λ (x : RankView). slice_index_or x.part.protocol 0 false) read
-
-pub returns-clause-did : goal.returns-clause-did
-unfolding facts
-returns-clause-did g c =
+returns g c =
     let ranks = c.args.self.now.ranks.items in
     let mail = mail_of c.args.self.now.mail in
     let r = c.args.rank in
     let old = c.index_mut.result.now in
     let new = c.use_protocol.new.self in
-    let used = λ (x : Part). record x { protocol = drop 1 x.protocol } in
+    let change = λ (x : Part). record x { protocol = drop 1 x.protocol } in
     did_use _ _ r (record { store = refl; parcels = refl; ranks = length-set ranks c.from.result new; letters = refl; paulis = refl }) c.requires
-    (tables_changed ranks mail c.from.result r old new (part_view used) c.from.ensures c.requires.known c.index_mut.ensures.value c.use_protocol.ensures.rest
-    ∙ part_changed (tables_of ranks mail) r used)
+    (tables_changed ranks mail c.from.result r old new (part_view change) c.from.ensures c.requires.known c.index_mut.ensures.value c.use_protocol.ensures
+    ∙ part_changed (tables_of ranks mail) r change)

@@ -1,12 +1,15 @@
-use Rattle.std.proofs.Common.{◌∙◌, sym, ap}
-use Rattle.qm_machine.specs.Views.{view_of}
-use Rattle.qm_machine.proofs.RankViews.{near_gone, near_kept}
+use Rattle.std.proofs.Common.{◌≡◌, ◌∙◌, ℕ, ◌+◌, ◌-◌, length, sym, ap, arith}
+use Rattle.std.specs.Option.{option_to_list}
+use Rattle.qm_denot.specs.Wires.{Wires, no_wires}
+use Rattle.qm_machine.specs.Views.{RankView, view_of}
+use Rattle.qm_machine.proofs.RankViews.{near_gone, near_counted}
 use Rattle.qm_machine.proofs.rank.Rank.drop_near.Goals as goal
 
-pub returns-then-eq : goal.returns-then-eq
-returns-then-eq c =
-    ap (λ ns. record (view_of c.args.self.now) { near = ns }) (sym (near_gone c.args.self.now.near c.args.e (sym c.eq.ensures ∙ c.if-eq.true)))
-
-pub returns-else-eq : goal.returns-else-eq
-returns-else-eq c =
-    ap (λ ns. record (view_of c.args.self.now) { near = ns }) (sym (near_kept c.args.self.now.near c.args.e (sym c.eq.ensures ∙ c.if-eq.false)))
+pub returns : goal.returns
+returns c e here =
+    let x = c.args.self.now in
+    let v = view_of x in
+    let with : Wires → ℕ → RankView = λ near held. record v { near = near; held = held } in
+    let one = near_counted x.near e here in
+    let held : 0 + length x.far.items ≡ (length (option_to_list x.near) + length x.far.items) - 1 = omega arith in
+    ap (with no_wires) held ∙ ap (λ near. with near (v.held - 1)) (sym (near_gone x.near e here))

@@ -1,0 +1,4 @@
+pub mod Table
+pub mod Letters
+pub mod Laws
+pub mod WorkedCollectives

@@ -1,0 +1,16 @@
+pub mod LaneLemmas
+pub mod TableLemmas
+pub mod LaneTests
+pub mod ActLemmas
+pub mod OneRunLemmas
+pub mod SmallActs
+pub mod WidthLemmas
+pub mod WireTests
+pub mod NumberLemmas
+pub mod OneCircuitLemmas
+pub mod RoomLemmas
+pub mod RunBounds
+pub mod RunsExist
+pub mod MeetingLemmas
+pub mod LineLemmas
+pub mod MeetingRuns

@@ -1,0 +1,52 @@
+-- Bits and ranks as numbers
+use Rattle.std.proofs.Common.{◌≡◌, ℕ, zero, suc, ◌+◌, ◌*◌, ◌-◌, ◌<◌, ◌≤◌, ◌^◌, Bool, true, false, if◌then◌else◌, List, [], ◌∷◌, length, map, slice_get, slice_index_or, Option, Some, None, refl, sym, ap, ◌∙◌, arith}
+use Rattle.std.proofs.lemmas.Nat.{pow_pos}
+use Rattle.std.proofs.Math.Nat.{pow-succ', pow-le-pow_right}
+use Rattle.std.proofs.lemmas.Option.{slice_get_read}
+use Rattle.qm_instr.specs.Programs.{Programs}
+use Rattle.qm_proto.specs.Model.Ideal.{IdealTables, has_instr}
+use Rattle.qm_ideal.specs.declared.tables.Rank.{Rank}
+use Rattle.qm_ideal.specs.OneCircuits.{number_of_bits, left_from, no_rank}
+use Rattle.qm_ideal.specs.Views.{end_of, slot_in, bits_in}
+
+digit_few : (b : Bool) → (if b then 1 else 0) ≤ 1
+digit_few true = omega arith
+digit_few false = omega arith
+
+pub number_of_bits-below : (bs : List Bool) (n : ℕ) → length bs ≤ n → number_of_bits bs < 2 ^ n
+number_of_bits-below [] n few = pow_pos n
+number_of_bits-below (b ∷ bs) zero few = absurd (omega arith)
+number_of_bits-below (b ∷ bs) (suc n) few =
+    let rest : number_of_bits bs < 2 ^ n = number_of_bits-below bs n (omega arith) in
+    omega (arith, digit_few b, pow-succ' 2 n)
+
+pub left_from-below : (p : Programs) (t : IdealTables) (r n : ℕ) → left_from p t r n < 2 ^ n
+left_from-below p t r zero = omega arith
+left_from-below p t r (suc n) =
+    let rest : left_from p t (r + 1) n < 2 ^ n = left_from-below p t (r + 1) n in
+    omega (arith, digit_few (has_instr p t r), pow-succ' 2 n)
+
+-- the ranks at the end are those of the tables
+pub slot_at_end : (ranks : List Rank) (r q : ℕ) → slice_index_or (slice_index_or (map end_of ranks) r no_rank).slots q None ≡ slot_in (slice_get ranks r) q
+slot_at_end [] r q = refl
+slot_at_end (k ∷ ranks) zero q = refl
+slot_at_end (k ∷ ranks) (suc r) q = slot_at_end ranks r q
+
+pub bits_at_end : (ranks : List Rank) (r : ℕ) → r < length ranks → (slice_index_or (map end_of ranks) r no_rank).bits ≡ bits_in (slice_get ranks r)
+bits_at_end [] r known = absurd (omega arith)
+bits_at_end (k ∷ ranks) zero known = refl
+bits_at_end (k ∷ ranks) (suc r) known = bits_at_end ranks r (omega (arith, known))
+
+-- at most 15 ranks make a number below 2^15
+pub left_few : (p : Programs) (t : IdealTables) (r n left : ℕ) → left ≡ left_from p t r n → n ≤ 15 → left < 2 ^ 15
+left_few p t r n left is few =
+    let below : left_from p t r n < 2 ^ n = left_from-below p t r n in
+    let wide : 2 ^ n ≤ 2 ^ 15 = pow-le-pow_right {n = 2} (omega arith) few in
+    omega (arith, is, below, wide)
+
+-- the bits of a rank that was read
+pub bits_read : (ranks : List Rank) (r i : ℕ) (k : Rank) → i ≡ r → r < length ranks → k ≡ slice_index_or ranks i k
+    → k.bits ≡ (slice_index_or (map end_of ranks) r no_rank).bits
+bits_read ranks r i k at known read =
+    let here : slice_get ranks r ≡ Some k = slice_get_read ranks (length ranks) r k refl known (read ∙ ap (λ j. slice_index_or ranks j k) at) in
+    sym (bits_at_end ranks r known ∙ ap bits_in here)

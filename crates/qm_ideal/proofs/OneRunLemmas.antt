@@ -1,0 +1,151 @@
+-- The run of the lowest enabled ranks: how it goes on, where it ends, and that it does
+use Rattle.std.proofs.Common.{◌≡◌, ◌≢◌, ℕ, zero, suc, ◌+◌, ◌-◌, ◌<◌, ◌≤◌, ◌⊎◌, inl, inr, true, false, List, [], ◌∷◌, ◌++◌, length, fold, Option, Some, refl, sym, ap, subst, ◌∙◌, arith, slice_get}
+use Rattle.std.proofs.lemmas.Option.{slice_get_within}
+use Rattle.qm_instr.specs.declared.Instr.{Instr}
+use Rattle.qm_instr.specs.declared.Instr.TheVariants as instr
+use Rattle.qm_instr.specs.Programs.{Programs, rank_of, IsInRange}
+use Rattle.qm_proto.specs.Model.Ideal.{IdealPart, IdealTables, IdealState, IdealAct, ideal_enabled, ideal_current, ideal_next, ideal_at_start, ideal_replay, IsLowestIdeal, IsIdealFrom, IsIdealRun, IsOneFrom, IsOneRun}
+use Rattle.qm_proto.proofs.Changes.{by_number}
+use Rattle.qm_runs.proofs.Confluence.Effects.{stepped, past, part_act, part_stepped, part_elsewhere}
+use Rattle.qm_runs.proofs.Confluence.ByView.{View, acts_by, view}
+use Rattle.qm_runs.proofs.Confluence.Helpers.{IsNext, next_where_able}
+use Rattle.qm_runs.proofs.Confluence.WellIdeal.{at_same}
+use Rattle.qm_runs.proofs.Confluence.Diamond.{next_is}
+use Rattle.qm_ideal.specs.OneRuns.{IsLowestFrom, IsOnTheWay, IsItsEnd, sum_below, instructions_left}
+
+module _ (p : Programs) where
+  -- ---- one rank more
+  lowest_push : (rs : List ℕ) (r : ℕ) (s : IdealState) → IsLowestFrom p s rs → IsLowestIdeal p (fold (ideal_next p) s rs).tables r
+      → IsLowestFrom p s (rs ++ r ∷ [])
+  lowest_push [] r s run low = (low, tt)
+  lowest_push (k ∷ rs) r s run low = (run.0, lowest_push rs r (ideal_next p s k) run.1 low)
+
+  state_push : (rs : List ℕ) (r : ℕ) (s : IdealState) → fold (ideal_next p) s (rs ++ r ∷ []) ≡ ideal_next p (fold (ideal_next p) s rs) r
+  state_push [] r s = refl
+  state_push (k ∷ rs) r s = state_push rs r (ideal_next p s k)
+
+  pub way_start : IsOnTheWay p (ideal_at_start p)
+  way_start = record { ranks = []; lowest = tt; state = refl }
+
+  pub way_next : (s u : IdealState) (r : ℕ) → IsOnTheWay p s → IsLowestIdeal p s.tables r → u ≡ ideal_next p s r → IsOnTheWay p u
+  way_next s u r way low is =
+      record {
+        ranks = way.ranks ++ r ∷ [];
+        lowest = lowest_push way.ranks r (ideal_at_start p) way.lowest (subst (λ (z : IdealState). IsLowestIdeal p z.tables r) (sym way.state) low);
+        state = state_push way.ranks r (ideal_at_start p) ∙ ap (λ z. ideal_next p z r) way.state ∙ sym is;
+      }
+
+  -- ---- the end
+  one_from_lowest : (rs : List ℕ) (s : IdealState) → IsLowestFrom p s rs
+      → ((r : ℕ) → r < length p.ranks → ideal_enabled p (fold (ideal_next p) s rs).tables r ≡ false) → IsOneFrom p s rs
+  one_from_lowest [] s run none = none
+  one_from_lowest (r ∷ rs) s run none = (run.0, one_from_lowest rs (ideal_next p s r) run.1 none)
+
+  pub way_end : (s : IdealState) → IsOnTheWay p s → ((r : ℕ) → r < length p.ranks → ideal_enabled p s.tables r ≡ false) → IsItsEnd p s
+  unfolding ideal_replay IsOneRun
+  way_end s way none =
+      record {
+        ranks = way.ranks;
+        run = one_from_lowest way.ranks (ideal_at_start p) way.lowest
+            (subst (λ (z : IdealState). (r : ℕ) → r < length p.ranks → ideal_enabled p z.tables r ≡ false) (sym way.state) none);
+        state = way.state;
+      }
+
+  ideal_from_lowest : (rs : List ℕ) (s : IdealState) → IsLowestFrom p s rs → IsIdealFrom p s rs
+  ideal_from_lowest [] s run = tt
+  ideal_from_lowest (r ∷ rs) s run = (run.0.known, run.0.able, ideal_from_lowest rs (ideal_next p s r) run.1)
+
+  -- ---- a step of a rank that is enabled
+  module _ (s : IdealState) (r : ℕ) (i : Instr) (next : IsNext p s.tables r i) where
+    acts : List IdealAct
+    acts = acts_by r i (view p s.tables r i)
+
+    at_more : ((ideal_next p s r).tables.parts r).at ≡ (s.tables.parts r).at + 1
+    unfolding acts
+    at_more =
+        ap (λ (u : IdealState). (u.tables.parts r).at) (next_is p s r i next.read)
+        ∙ ap (λ (x : IdealPart). x.at) (part_stepped r acts s.tables)
+        ∙ ap (λ k. k + 1) (at_same (s.tables.parts r) acts)
+
+    part_else : (k : ℕ) → k ≢ r → (ideal_next p s r).tables.parts k ≡ s.tables.parts k
+    unfolding acts
+    part_else k other =
+        ap (λ (u : IdealState). u.tables.parts k) (next_is p s r i next.read) ∙ part_elsewhere r acts s.tables k other
+
+    made_more : ((ideal_next p s r).tables.parts r).made ≡ (fold part_act (s.tables.parts r) acts).made
+    unfolding acts
+    made_more =
+        ap (λ (u : IdealState). (u.tables.parts r).made) (next_is p s r i next.read)
+        ∙ ap (λ (x : IdealPart). x.made) (part_stepped r acts s.tables)
+
+  -- a step counts at most one wire
+  one_counted : (r : ℕ) (i : Instr) (v : View) (x : IdealPart) → (fold part_act x (acts_by r i v)).made ≤ x.made + 1
+  one_counted r (instr.Alloc q) v x = omega arith
+  one_counted r (instr.Measure q b) v x = omega arith
+  one_counted r (instr.RecvBit b from tag) v x = omega arith
+  one_counted r (instr.CopyTo q to tag) v x = omega arith
+  one_counted r (instr.CopyFrom q from tag) v x = omega arith
+  one_counted r (instr.UndoTo q to tag) v x = omega arith
+  one_counted r (instr.MoveTo q to tag) v x = omega arith
+  one_counted r (instr.MoveFrom q from tag) v x = omega arith
+  one_counted r (instr.ReachTo q to tag) v x = omega arith
+  one_counted r _ v x = omega arith
+
+  -- so a rank has counted no more wires than it has done instructions
+  abbrev pub CountsFew : IdealTables → Type 0
+  CountsFew t = (r : ℕ) → (t.parts r).made ≤ (t.parts r).at
+
+  few_next : (s : IdealState) (r : ℕ) (i : Instr) → IsNext p s.tables r i → CountsFew s.tables → CountsFew (ideal_next p s r).tables
+  unfolding acts
+  few_next s r i next few =
+      by_number (λ k. ((ideal_next p s r).tables.parts k).made ≤ ((ideal_next p s r).tables.parts k).at) r
+      (let a = at_more s r i next in let m = made_more s r i next in let c = one_counted r i (view p s.tables r i) (s.tables.parts r) in omega (arith, a, m, c, few r))
+      (λ k other. subst (λ (x : IdealPart). x.made ≤ x.at) (sym (part_else s r i next k other)) (few k))
+
+  few_after : (rs : List ℕ) (s : IdealState) → IsIdealFrom p s rs → CountsFew s.tables → CountsFew (fold (ideal_next p) s rs).tables
+  few_after [] s run few = few
+  few_after (r ∷ rs) s run few =
+      let n = next_where_able p s.tables r run.1 in
+      few_after rs (ideal_next p s r) run.2 (few_next s r n.0 n.1 few)
+
+  pub few_on_the_way : (s : IdealState) → IsOnTheWay p s → CountsFew s.tables
+  few_on_the_way s way =
+      subst (λ (u : IdealState). CountsFew u.tables) way.state
+      (few_after way.ranks (ideal_at_start p) (ideal_from_lowest way.ranks (ideal_at_start p) way.lowest) (λ r. omega arith))
+
+  -- ---- the number of instructions left falls
+  same_or_below : (k n : ℕ) → k < suc n → (k ≡ n) ⊎ (k < n)
+  same_or_below k n h = grind arith
+
+  sum_below-le : (f g : ℕ → ℕ) (n : ℕ) → ((k : ℕ) → k < n → f k ≤ g k) → sum_below f n ≤ sum_below g n
+  sum_below-le f g zero each = omega arith
+  sum_below-le f g (suc n) each =
+      let rest = sum_below-le f g n (λ k h. each k (omega arith)) in
+      let last = each n (omega arith) in
+      omega arith
+
+  pub sum_below-lt : (f g : ℕ → ℕ) (n r : ℕ) → ((k : ℕ) → k < n → f k ≤ g k) → r < n → f r < g r → sum_below f n < sum_below g n
+  sum_below-lt f g zero r each known less = absurd (omega arith)
+  sum_below-lt f g (suc n) r each known less = elim (same_or_below r n known) [
+    | inl e ↦
+        let rest = sum_below-le f g n (λ k h. each k (omega arith)) in
+        let last = subst (λ k. f k < g k) e less in
+        omega arith
+    | inr below ↦
+        let rest = sum_below-lt f g n r (λ k h. each k (omega arith)) below less in
+        let last = each n (omega arith) in
+        omega arith
+  ]
+
+  pub left_falls : (s u : IdealState) (r : ℕ) → IsLowestIdeal p s.tables r → u ≡ ideal_next p s r → instructions_left p u.tables < instructions_left p s.tables
+  left_falls s u r low is =
+      let n = next_where_able p s.tables r low.able in
+      let left = λ (t : IdealTables) (k : ℕ). length (rank_of p k).instructions - (t.parts k).at in
+      let within : (s.tables.parts r).at < length (rank_of p r).instructions = slice_get_within (rank_of p r).instructions (s.tables.parts r).at n.0 n.1.read in
+      let more = at_more s r n.0 n.1 in
+      let v = ideal_next p s r in
+      let here : left v.tables r < left s.tables r = omega (arith, within, more) in
+      subst (λ (z : IdealState). instructions_left p z.tables < instructions_left p s.tables) (sym is)
+      (sum_below-lt (left v.tables) (left s.tables) (length p.ranks) r
+      (λ k below. by_number (λ k. left v.tables k ≤ left s.tables k) r (omega (arith, here)) (λ k other. let e = ap (λ (x : IdealPart). x.at) (part_else s r n.0 n.1 k other) in omega (arith, e)) k)
+      low.known here)

@@ -1,0 +1,5 @@
+use Rattle.qm_runs.proofs.Confluence.Confluent.{confluence}
+use Rattle.qm_ideal.proofs.laws.confluence_law.Goals as goal
+
+pub returns : goal.returns
+returns c = confluence

@@ -1,0 +1,10 @@
+use Rattle.std.proofs.Common.{Some, ap, sym, ◌∙◌}
+use Rattle.qm_instr.specs.Lanes.{is_on}
+use Rattle.qm_proto.specs.Model.Runs.{receives_on}
+use Rattle.qm_ideal.proofs.LaneTests.{same_on}
+use Rattle.qm_ideal.proofs.run.receives.Goals as goal
+
+pub returns-in-Some : goal.returns-in-Some
+returns-in-Some c =
+    c.eq.ensures ∙ same_on c.receive_lane.result c.args.lane ∙ ap (λ o. is_on o c.args.lane) c.receive_lane.ensures
+    ∙ ap (λ o. receives_on c.args.rank o c.args.lane) (sym c.in-Some.is)

@@ -1,0 +1,11 @@
+pub mod Lanes
+pub mod Meanings
+pub mod Views
+pub mod OneRuns
+pub mod Widths
+pub mod OneCircuits
+pub mod Room
+pub mod Existence
+pub mod Meetings
+pub mod MeetingViews
+pub mod MeetingRuns

@@ -1,0 +1,66 @@
+-- What the code's steps mean in the model of the ideal run
+use Rattle.std.specs.Prelude.{◌<◌, Bool, true, false, List, [], ◌∷◌, Option, Some, None}
+use Rattle.qm_instr.specs.declared.Instr.{Instr}
+use Rattle.qm_instr.specs.declared.Instr.TheVariants as instr
+use Rattle.qm_proto.specs.Model.Ideal as model
+use Rattle.qm_proto.specs.Model.Ideal.{IdealRule, IdealAct}
+use Rattle.qm_ideal.specs.declared.steps.Load as code
+use Rattle.qm_ideal.specs.declared.steps.Load.TheVariants as load
+use Rattle.qm_ideal.specs.declared.steps.Rule.{Rule}
+use Rattle.qm_ideal.specs.declared.steps.Rule.TheVariants as rule
+use Rattle.qm_ideal.specs.declared.steps.Act.{Act}
+use Rattle.qm_ideal.specs.declared.steps.Act.TheVariants as act
+
+abbrev pub load_meant : code.Load → model.Load
+load_meant (load.Carried w) = model.Carried w
+load_meant (load.Told b) = model.Told b
+load_meant load.Token = model.Token
+
+-- what stands at a lane's front; a sign, where nothing does
+abbrev pub load_in : Option code.Load → model.Load
+load_in None = model.Token
+load_in (Some x) = load_meant x
+
+abbrev pub rule_meant : Rule → IdealRule
+rule_meant rule.Always = model.Always
+rule_meant (rule.Filled a) = model.Filled a
+rule_meant (rule.Engaged a) = model.Engaged a
+rule_meant (rule.Lent a back) = model.Lent a back
+
+abbrev pub act_meant : Act → IdealAct
+act_meant act.Counts = model.Counts
+act_meant (act.SlotSet q w) = model.SlotSet q w
+act_meant (act.Puts a x) = model.Puts a (load_meant x)
+act_meant (act.Takes a) = model.Takes a
+act_meant act.OwnUsed = model.OwnUsed
+act_meant (act.BitSet b v) = model.BitSet b v
+
+-- whether an instruction is the end of a message
+abbrev pub is_message : Instr → Bool
+is_message (instr.SendBit b to tag) = true
+is_message (instr.RecvBit b from tag) = true
+is_message (instr.CopyTo q to tag) = true
+is_message (instr.CopyFrom q from tag) = true
+is_message (instr.UndoTo q to tag) = true
+is_message (instr.UndoFrom q from tag) = true
+is_message (instr.MoveTo q to tag) = true
+is_message (instr.MoveFrom q from tag) = true
+is_message (instr.ReachTo q to tag) = true
+is_message (instr.ReachFrom q from tag) = true
+is_message (instr.Alloc q) = false
+is_message (instr.Free q) = false
+is_message (instr.Do g) = false
+is_message (instr.Measure q b) = false
+is_message (instr.Set b v) = false
+is_message (instr.Xor b c) = false
+is_message (instr.When b g) = false
+
+-- the act's slot or bit is one that there may be
+abbrev pub IsSmall : IdealAct → Type 0
+IsSmall (model.SlotSet q w) = q < 16
+IsSmall (model.BitSet b v) = b < 32
+IsSmall _ = Unit {0}
+
+abbrev pub AllSmall : List IdealAct → Type 0
+AllSmall [] = Unit {0}
+AllSmall (a ∷ acts) = IsSmall a × AllSmall acts

@@ -1,0 +1,41 @@
+-- The rendezvous run as the code keeps it
+use Rattle.std.specs.Prelude.{ℕ, List, [], ◌∷◌, Option, Some, None, map, option_to_list, slice_get}
+use Rattle.qm_ideal.specs.declared.lines.Line as code_line
+use Rattle.qm_ideal.specs.declared.lines.Move as code_move
+use Rattle.qm_ideal.specs.declared.lines.Move.TheVariants as variant
+use Rattle.qm_ideal.specs.declared.meeting.Meeting.{Meeting}
+use Rattle.qm_ideal.specs.declared.meeting.Place.{Place}
+use Rattle.qm_ideal.specs.Lanes.{lanes_of}
+use Rattle.qm_ideal.specs.Meetings.{Move, Puts, Tells, Gets, Shape, shape, Stand}
+
+abbrev pub move_meant : code_move.Move → Move
+move_meant (variant.Puts a b) = Puts a b
+move_meant (variant.Tells a) = Tells a
+move_meant (variant.Gets a) = Gets a
+
+abbrev pub line_meant : code_line.Line → Shape
+line_meant x = shape x.rule (map move_meant (option_to_list x.act))
+
+abbrev pub line_in : Option code_line.Line → Option Shape
+line_in None = None
+line_in (Some x) = Some (line_meant x)
+
+abbrev pub unmoved : Place
+unmoved = record { at = 0; stage = 0 }
+
+-- where a rank stands; one that there isn't stands at its start
+abbrev pub at_in : Option Place → ℕ
+at_in None = 0
+at_in (Some x) = x.at
+
+abbrev pub stage_in : Option Place → ℕ
+stage_in None = 0
+stage_in (Some x) = x.stage
+
+abbrev pub stand_in : Meeting → Stand
+stand_in m =
+    record {
+      at = λ r. at_in (slice_get m.places.items r);
+      stage = λ r. stage_in (slice_get m.places.items r);
+      lanes = lanes_of m.lanes;
+    }

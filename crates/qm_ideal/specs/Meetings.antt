@@ -1,0 +1,146 @@
+-- The rendezvous run by what decides it: where each rank stands, and for each parcel of a lane whether it has bits
+use Rattle.std.specs.Prelude.{ℕ, ◌≡◌, ◌<◌, ◌+◌, nat_eq, nat_lt, Bool, true, false, ◌&&◌, if◌then◌else◌, List, [], ◌∷◌, ◌++◌, Option, Some, None, is_some, map, drop, fold, slice_get, slice_index_or, length}
+use Rattle.qm_instr.specs.declared.Instr.{Instr}
+use Rattle.qm_instr.specs.declared.Instr.TheVariants as instr
+use Rattle.qm_instr.specs.declared.Kind.TheVariants as kind
+use Rattle.qm_instr.specs.declared.Lane.{Lane}
+use Rattle.qm_instr.specs.Counts.{events_of}
+use Rattle.qm_instr.specs.Lanes.{lane}
+use Rattle.qm_instr.specs.Programs.{Programs}
+use Rattle.qm_proto.specs.declared.Act.{Act}
+use Rattle.qm_proto.specs.declared.Act.TheVariants.{Posts, Fills, Receives}
+use Rattle.qm_denot.specs.declared.Parcel.{Parcel}
+use Rattle.qm_proto.specs.declared.Row.{Row}
+use Rattle.qm_proto.specs.declared.Rule.{Rule}
+use Rattle.qm_proto.specs.declared.Rule.TheVariants.{Always, PairRoom, Engaged, Filled}
+use Rattle.qm_proto.specs.Model.Acts.{list_of}
+use Rattle.qm_proto.specs.Model.Rows.{instr_at}
+use Rattle.qm_proto.specs.Model.Runs.{receives_on, events_at}
+use Rattle.qm_proto.specs.Model.State.{Part, Tables, with_at, with_lane}
+use Rattle.qm_ideal.specs.Lanes.{last_set}
+
+-- what an act does to a lane
+pub data Move : Type 0 where
+  Puts : (a : Lane) (told : Bool) → Move  -- a parcel goes to its end, with or without bits
+  Tells : (a : Lane) → Move  -- its last parcel gets bits
+  Gets : (a : Lane) → Move  -- its front parcel is taken
+
+abbrev pub moves : List Act → List Move
+moves [] = []
+moves (Posts a x ∷ acts) = Puts a (is_some x.bits) ∷ moves acts
+moves (Fills a b ∷ acts) = Tells a ∷ moves acts
+moves (Receives a ∷ acts) = Gets a ∷ moves acts
+moves (_ ∷ acts) = moves acts
+
+-- what an event waits for, and what it does to lanes
+pub record Shape : Type 0 where
+  pub rule : Rule
+  pub moves : List Move
+
+abbrev pub shape : Rule → List Move → Shape
+shape rule ms = record { rule = rule; moves = ms }
+
+abbrev pub shape_of : Row → Shape
+shape_of w = shape w.rule (moves (list_of w.acts))
+
+abbrev pub still : Shape
+still = shape Always []
+
+-- the events of an instruction of rank r
+abbrev pub shapes : ℕ → Instr → List Shape
+shapes r (instr.SendBit b to tag) = shape Always (Puts (lane r to kind.Bit tag) true ∷ []) ∷ []
+shapes r (instr.RecvBit b from tag) = let a = lane from r kind.Bit tag in shape (Filled a) (Gets a ∷ []) ∷ []
+shapes r (instr.CopyTo q to tag) =
+    let a = lane r to kind.Copy tag in shape (PairRoom a) (Puts a false ∷ []) ∷ still ∷ shape Always (Tells a ∷ []) ∷ []
+shapes r (instr.CopyFrom q from tag) = let a = lane from r kind.Copy tag in shape (Filled a) (Gets a ∷ []) ∷ still ∷ []
+shapes r (instr.UndoTo q to tag) = let a = lane r to kind.Undo tag in shape (Engaged a) [] ∷ shape Always (Puts a true ∷ []) ∷ []
+shapes r (instr.UndoFrom q from tag) = let a = lane from r kind.Undo tag in shape (Filled a) (Gets a ∷ []) ∷ still ∷ []
+shapes r (instr.MoveTo q to tag) =
+    let a = lane r to kind.Move tag in
+    shape (PairRoom a) (Puts a false ∷ []) ∷ still ∷ still ∷ still ∷ shape Always (Tells a ∷ []) ∷ []
+shapes r (instr.MoveFrom q from tag) = let a = lane from r kind.Move tag in shape (Filled a) (Gets a ∷ []) ∷ still ∷ still ∷ []
+shapes r (instr.ReachTo q to tag) =
+    let a = lane r to kind.Reach tag in
+    let back = lane to r kind.Back tag in
+    shape (PairRoom a) (Puts a false ∷ []) ∷ still ∷ shape Always (Tells a ∷ []) ∷ shape (Filled back) (Gets back ∷ []) ∷ still ∷ []
+shapes r (instr.ReachFrom q from tag) =
+    let a = lane from r kind.Reach tag in
+    let back = lane r from kind.Back tag in
+    shape (Filled a) (Gets a ∷ []) ∷ still ∷ still ∷ still ∷ shape Always (Puts back true ∷ []) ∷ []
+shapes r (instr.Alloc q) = still ∷ []
+shapes r (instr.Free q) = still ∷ []
+shapes r (instr.Do g) = still ∷ []
+shapes r (instr.Measure q b) = still ∷ []
+shapes r (instr.Set b v) = still ∷ []
+shapes r (instr.Xor b c) = still ∷ []
+shapes r (instr.When b g) = still ∷ []
+
+-- where the ranks stand, and the lanes
+pub record Stand : Type 0 where
+  pub at : ℕ → ℕ
+  pub stage : ℕ → ℕ
+  pub lanes : Lane → List Bool
+
+abbrev pub has_bits : Parcel → Bool
+has_bits x = is_some x.bits
+
+abbrev pub stand_of : Tables → Stand
+stand_of t = record { at = λ r. (t.parts r).at; stage = λ r. (t.parts r).stage; lanes = λ a. map has_bits (t.lanes a) }
+
+-- what a move leaves: a parcel more, bits in the last one, or all but the front one
+abbrev pub lanes_after : (Lane → List Bool) → Move → Lane → List Bool
+lanes_after f (Puts a b) = with_lane f a (f a ++ b ∷ [])
+lanes_after f (Tells a) = with_lane f a (last_set (f a) true)
+lanes_after f (Gets a) = with_lane f a (drop 1 (f a))
+
+-- the instruction number k of a rank
+abbrev pub Reader : Type 0
+Reader = ℕ → ℕ → Option Instr
+
+-- the event at which rank r stands, where it has one left
+abbrev pub shape_in : ℕ → ℕ → Option Instr → Option Shape
+shape_in r stage None = None
+shape_in r stage (Some i) = slice_get (shapes r i) stage
+
+abbrev pub shape_next : Reader → Stand → ℕ → Option Shape
+shape_next read s r = shape_in r (s.stage r) (read r (s.at r))
+
+-- whether lane a is wanted: its receiver stands at the first event of a receive of it, and it is empty
+abbrev pub is_wanted_at : Reader → Stand → Lane → Bool
+is_wanted_at read s a =
+    nat_eq (s.stage a.to) 0 && (receives_on a.to (read a.to (s.at a.to)) a && nat_eq (length (s.lanes a)) 0)
+
+-- whether what the rule asks for is so; a buffer of one has room for no pair that isn't wanted
+abbrev pub rule_holds : Reader → Stand → Rule → Bool
+rule_holds read s Always = true
+rule_holds read s (PairRoom a) = is_wanted_at read s a
+rule_holds read s (Engaged a) = is_wanted_at read s a
+rule_holds read s (Filled a) = slice_index_or (s.lanes a) 0 false
+
+abbrev pub shape_holds : Reader → Stand → Option Shape → Bool
+shape_holds read s None = false
+shape_holds read s (Some w) = rule_holds read s w.rule
+
+-- whether rank r is enabled
+abbrev pub may_go : Reader → Stand → ℕ → Bool
+may_go read s r = shape_holds read s (shape_next read s r)
+
+-- after an event of rank r, whose instruction has n of them
+abbrev pub gone : ℕ → Stand → ℕ → Option Shape → Stand
+gone n s r None = s
+gone n s r (Some w) =
+    let more = nat_lt (s.stage r + 1) n in
+    record {
+      at = with_at s.at r (if more then s.at r else s.at r + 1);
+      stage = with_at s.stage r (if more then s.stage r + 1 else 0);
+      lanes = fold lanes_after s.lanes w.moves;
+    }
+
+abbrev pub go : Reader → Stand → ℕ → Stand
+go read s r = gone (events_at (read r (s.at r))) s r (shape_next read s r)
+
+-- r is the lowest of n numbers at which f is true
+pub record IsLeast (f : ℕ → Bool) (n r : ℕ) : Type 0 where
+  pub known : r < n
+  pub able : f r ≡ true
+  pub below : (k : ℕ) → k < r → f k ≡ false

@@ -1,0 +1,73 @@
+-- The one circuit of programs, and why there is none
+use Rattle.std.specs.Prelude.{◌≡◌, ◌≢◌, ℕ, ◌+◌, ◌*◌, ◌<◌, zero, suc, Bool, true, false, slice_index_or, None, List, [], ◌∷◌, ◌++◌, Option, option_to_list, length, if◌then◌else◌}
+use Rattle.qm_denot.specs.declared.Wire.{Wire}
+use Rattle.qm_denot.specs.Circuits.{Circuit}
+use Rattle.qm_instr.specs.Programs.{Programs}
+use Rattle.qm_proto.specs.Model.Ideal as model
+use Rattle.qm_proto.specs.Model.Ideal.{IdealTables, IdealState, ideal_replay, IsOneRun, AllDone, has_instr}
+use Rattle.qm_ideal.specs.declared.MonoError.{MonoError}
+use Rattle.qm_ideal.specs.declared.MonoError.TheVariants as error
+
+-- the number whose binary digits are the bits, the lowest first
+abbrev pub number_of_bits : List Bool → ℕ
+number_of_bits [] = 0
+number_of_bits (b ∷ bs) = (if b then 1 else 0) + 2 * number_of_bits bs
+
+-- the wires in the first n slots of a rank
+abbrev pub wires_below : (ℕ → Option Wire) → ℕ → List Wire
+wires_below f zero = []
+wires_below f (suc n) = wires_below f n ++ option_to_list (f n)
+
+-- the wires in the slots of the first n ranks, by rank, then by slot; no rank has more than 16 slots
+abbrev pub wires_in : (ℕ → ℕ → Option Wire) → ℕ → List Wire
+wires_in f zero = []
+wires_in f (suc n) = wires_in f n ++ wires_below (f n) 16
+
+-- a rank at the end: its bits and its slots
+pub record RankEnd : Type 0 where
+  pub bits : List Bool
+  pub slots : List (Option Wire)
+
+-- a circuit with the ranks at its end, and its width
+pub record OneView : Type 0 where
+  pub letters : Circuit
+  pub ranks : List RankEnd
+  pub width : ℕ
+
+-- what stands for a rank that there isn't
+abbrev pub no_rank : RankEnd
+no_rank = record { bits = []; slots = [] }
+
+abbrev pub bits_of : OneView → ℕ → List Bool
+bits_of m r = (slice_index_or m.ranks r no_rank).bits
+
+abbrev pub slot_of : OneView → ℕ → ℕ → Option Wire
+slot_of m r q = slice_index_or (slice_index_or m.ranks r no_rank).slots q None
+
+-- the run of the lowest enabled ranks does not end early, and has this circuit, these bits and these slots
+pub record IsOneCircuit (p : Programs) (m : OneView) : Type 0 where
+  pub ranks : List ℕ
+  pub run : IsOneRun p ranks
+  pub done : AllDone p (ideal_replay p ranks).tables
+  pub letters : m.letters ≡ (ideal_replay p ranks).circuit
+  pub count : length m.ranks ≡ length p.ranks
+  pub bits : (r : ℕ) → r < length p.ranks → bits_of m r ≡ ((ideal_replay p ranks).tables.parts r).bits
+  pub slots : (r q : ℕ) → slot_of m r q ≡ (ideal_replay p ranks).tables.slots r q
+  pub wide : m.width ≡ model.width m.letters (wires_in (slot_of m) (length m.ranks))
+
+-- the sum of 2^k over those of the n ranks r, r+1, .. that have instructions left, where the first of them is number 0
+abbrev pub left_from : Programs → IdealTables → ℕ → ℕ → ℕ
+left_from p t r zero = 0
+left_from p t r (suc n) = (if has_instr p t r then 1 else 0) + 2 * left_from p t (r + 1) n
+
+-- the run ends early, with instructions left at these ranks
+pub record EndsEarly (p : Programs) (left : ℕ) : Type 0 where
+  pub ranks : List ℕ
+  pub run : IsOneRun p ranks
+  pub early : ¬ AllDone p (ideal_replay p ranks).tables
+  pub left_so : left ≡ left_from p (ideal_replay p ranks).tables 0 (length p.ranks)
+
+-- why programs have no one circuit
+abbrev pub Explains : Programs → MonoError → Type 0
+Explains p (error.Waits left) = EndsEarly p left
+Explains p error.Memory = Unit {0}

@@ -1,0 +1,71 @@
+-- The ideal tables that the code keeps
+use Rattle.std.specs.Prelude.{ℕ, Bool, false, List, map, drop, replicate, Option, Some, None, slice_get, slice_index_or}
+use Rattle.qm_denot.specs.declared.Wire.{Wire}
+use Rattle.qm_instr.specs.declared.Lane.{Lane}
+use Rattle.qm_instr.specs.Programs.{Programs, RankProgram, rank_of}
+use Rattle.qm_proto.specs.Model.Ideal.{IdealPart, IdealTables, IdealState, Load, ideal_part_at_start, width}
+use Rattle.qm_ideal.specs.declared.run.Run.{Run}
+use Rattle.qm_ideal.specs.declared.tables.Rank.{Rank}
+use Rattle.qm_ideal.specs.declared.tables.Tables.{Tables}
+use Rattle.qm_ideal.specs.Lanes.{lanes_of}
+use Rattle.qm_ideal.specs.Meanings.{load_meant}
+use Rattle.qm_ideal.specs.OneCircuits.{RankEnd, OneView, wires_in}
+
+-- a rank with this program
+abbrev pub part_of : RankProgram → Rank → IdealPart
+part_of x k = record { at = k.at; made = k.made; bits = k.bits; own = drop k.used x.own }
+
+abbrev pub part_in : RankProgram → Option Rank → IdealPart
+part_in x None = ideal_part_at_start x
+part_in x (Some k) = part_of x k
+
+abbrev pub parts_at : Programs → List Rank → ℕ → IdealPart
+parts_at p ranks r = part_in (rank_of p r) (slice_get ranks r)
+
+-- a rank before its first instruction
+abbrev pub unmoved : Rank
+unmoved = record { at = 0; made = 0; used = 0; bits = replicate 32 false; slots = replicate 16 None }
+
+-- the wires in a rank's slots
+abbrev pub slot_in : Option Rank → ℕ → Option Wire
+slot_in None q = None
+slot_in (Some k) q = slice_index_or k.slots q None
+
+abbrev pub slots_at : List Rank → ℕ → ℕ → Option Wire
+slots_at ranks r q = slot_in (slice_get ranks r) q
+
+-- a rank's bits
+abbrev pub bits_in : Option Rank → List Bool
+bits_in None = replicate 32 false
+bits_in (Some k) = k.bits
+
+abbrev pub bits_at : List Rank → ℕ → List Bool
+bits_at ranks r = bits_in (slice_get ranks r)
+
+abbrev pub tables_of : Programs → Tables → IdealTables
+tables_of p t =
+    record {
+      parts = parts_at p t.ranks.items;
+      slots = slots_at t.ranks.items;
+      lanes = λ a. map load_meant (lanes_of t.lanes a);
+    }
+
+-- the tables and the letters of a run
+abbrev pub state_of : Programs → Run → IdealState
+state_of p x = record { tables = tables_of p x.tables; circuit = x.letters.items }
+
+-- a rank at the end of a run
+abbrev pub end_of : Rank → RankEnd
+end_of k = record { bits = k.bits; slots = k.slots }
+
+abbrev pub ends_of : Tables → List RankEnd
+ends_of t = map end_of t.ranks.items
+
+-- the circuit of a run of so many ranks, and its width
+abbrev pub view_of_run : ℕ → Run → OneView
+view_of_run n x =
+    record {
+      letters = x.letters.items;
+      ranks = ends_of x.tables;
+      width = width x.letters.items (wires_in (slots_at x.tables.ranks.items) n);
+    }

@@ -1,0 +1,135 @@
+//! The one circuit of programs.
+ghost use Rattle.std.specs.Prelude.{◌≡◌, ◌<◌, ◌≤◌, ◌++◌, length, IfOk, IfErr, OnOk};
+ghost use Rattle.qm_ideal.specs.OneCircuits.{wires_below, wires_in, left_from, number_of_bits, bits_of, slot_of, IsOneCircuit, Explains};
+ghost use Rattle.qm_ideal.specs.Views.{tables_of, slots_at, view_of_run};
+
+use crate::MonoError;
+use crate::run::Run;
+use crate::tables::Tables;
+use crate::width::width;
+use qm_check::Ready;
+use qm_denot::{Letter, Wire};
+use qm_instr::Input;
+use std::alloc::{AllocError, Global};
+use std::marker::Model;
+
+/// The one circuit of programs, with the bits and the slots of the ranks at its end.
+#[derive(Drop)]
+pub struct OneCircuit {
+    letters: Vec<Letter>,
+    tables: Tables,
+    width: u32,
+}
+
+impl Model for OneCircuit {
+    ghost use Rattle.qm_ideal.specs.OneCircuits.{OneView};
+    ghost use Rattle.qm_ideal.specs.Views.{ends_of};
+
+    ghost Value = { OneView };
+
+    ghost view = { λ m. record { letters = m.letters.items; ranks = ends_of m.tables; width = m.width } };
+}
+
+impl OneCircuit {
+    /// The letters of the circuit.
+    pub fn letters(&self) -> &[Letter]
+        ensures { result.now ≡ self.now.letters }
+    {
+        self.letters.as_slice()
+    }
+
+    /// The classical bits of a rank at the circuit's end, bit 0 the lowest.
+    pub fn bits(&self, rank: u16) -> u32
+        requires { rank < length self.now.ranks }
+        ensures { result ≡ number_of_bits (bits_of self.now rank) }
+    {
+        self.tables.bits(rank)
+    }
+
+    /// The wire in a slot at the circuit's end. `None` exactly where it is empty.
+    pub fn slot(&self, rank: u16, q: u8) -> Option<Wire>
+        ensures { result ≡ slot_of self.now rank q }
+    {
+        self.tables.end_slot(rank, q)
+    }
+
+    /// The least capacity of a store in which every letter finds room.
+    ///
+    /// In that store a wire is made fresh just before the first letter that names it, but the second wire of a `Rename` takes the place
+    /// of the first. The wires in slots that no letter names are made fresh after the last letter.
+    pub fn width(&self) -> u32
+        ensures { result ≡ self.now.width }
+    {
+        self.width
+    }
+}
+
+/// The ranks that have instructions left, as a number with the bit of each.
+fn ranks_left(input: &Input, ranks: u16, tables: &Tables) -> u16
+    requires all { ranks ≡ length input.now.ranks }
+    requires same { length tables.now.ranks.items ≡ length input.now.ranks }
+    requires few { ranks ≤ 16 }
+    ensures { result ≡ left_from input.now (tables_of input.now tables.now) 0 (length input.now.ranks) }
+{
+    let mut left = 0;
+    for k in 0..ranks {
+        left = 2 * left + u16::from(tables.current(input, ranks - 1 - k).is_some());
+    }
+    left
+}
+
+/// The wires in the slots of all ranks, by rank, then by slot.
+fn wires_in(alloc: Global, ranks: u16, tables: &Tables) -> Result<Vec<Wire>, AllocError>
+    ensures { IfOk result (λ ws. ws.items ≡ wires_in (slots_at tables.now.ranks.items) ranks) }
+{
+    let mut wires = Vec::new(alloc);
+    for rank in 0..ranks {
+        push_wires(&mut wires, tables, rank)?;
+    }
+    Ok(wires)
+}
+
+/// Appends the wires in the slots of a rank.
+fn push_wires(wires: &mut Vec<Wire>, tables: &Tables, rank: u16) -> Result<(), AllocError>
+    ensures { OnOk result (wires.new.items ≡ wires.old.items ++ wires_below (slots_at tables.now.ranks.items rank) 16) }
+{
+    for q in 0..16 {
+        if let Some(wire) = tables.slot(rank, q) {
+            wires.push(wire)?;
+        }
+    }
+    Ok(())
+}
+
+/// The circuit, with its width, of a run that leaves no instruction.
+fn measured(alloc: Global, ranks: u16, run: Run) -> Result<OneCircuit, MonoError>
+    requires few { ranks ≤ 16 }
+    requires short { length run.letters.items ≤ 3200000 }
+    ensures ok { IfOk result (λ m. m ≡ view_of_run ranks run) }
+    ensures err { IfErr result (λ e. e ≡ MonoError.Memory) }
+{
+    let ends = wires_in(alloc, ranks, &run.tables)?;
+    let width = width(alloc, run.letters.as_slice(), ends.as_slice())?;
+    Ok(OneCircuit {
+        letters: run.letters,
+        tables: run.tables,
+        width: width as u32,
+    })
+}
+
+/// The one circuit of programs: the circuit of the ideal run that always steps the lowest enabled rank.
+///
+/// `Waits` comes exactly where that run ends with instructions left. `Memory` comes from the allocator alone.
+pub fn mono(alloc: Global, ready: &Ready) -> Result<OneCircuit, MonoError>
+    ensures ok { IfOk result (IsOneCircuit ready.now) }
+    ensures err { IfErr result (Explains ready.now) }
+{
+    let input = ready.input();
+    let count = input.ranks();
+    let run = Run::of(alloc, input)?;
+    let ranks = ranks_left(input, count, &run.tables);
+    if ranks != 0 {
+        return Err(MonoError::Waits { ranks });
+    }
+    measured(alloc, count, run)
+}

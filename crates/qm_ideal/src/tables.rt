@@ -1,0 +1,362 @@
+//! Where each rank stands, the wires in its slots, and what the lanes hold.
+ghost use Rattle.std.specs.Prelude.{◌≡◌, ◌<◌, ◌+◌, ◌^◌, ℕ, length, map, unwrap_or, slice_get, slice_index_or, nat_eq, false, None, drop, fold, IfOk, OnOk};
+ghost use Rattle.qm_proto.specs.Model.State.{no_wire};
+ghost use Rattle.qm_proto.specs.Model.Acts.{list_of};
+ghost use Rattle.qm_proto.specs.Model.Ideal.{ideal_wire_in, ideal_made, ideal_current, ideal_offered, ideal_done, ideal_moved_on, Counts, SlotSet, Puts, Takes, OwnUsed, BitSet, load_at, wire_carried, bit_told, is_empty_lane, ideal_at_start};
+ghost use Rattle.qm_ideal.specs.Meanings.{act_meant, load_meant, load_in, IsSmall, AllSmall};
+ghost use Rattle.qm_ideal.specs.Lanes.{lanes_of};
+ghost use Rattle.qm_ideal.specs.OneCircuits.{number_of_bits, no_rank};
+ghost use Rattle.qm_ideal.specs.Views.{tables_of, slots_at, ends_of};
+
+use crate::lanes::Lanes;
+use crate::steps::{Act, Load};
+use qm_denot::Wire;
+use qm_instr::{Input, Instr, Lane};
+use qm_proto::Few;
+use std::alloc::{AllocError, Global};
+
+/// How many slots a rank may have.
+const SLOTS: usize = 16;
+
+/// How many classical bits a rank has.
+const BITS: usize = 32;
+
+/// What stands for the wire of an empty slot, and of a lane without one.
+const NO_WIRE: Wire = Wire {
+    rank: 0,
+    made: 0,
+    near: false,
+};
+
+/// A rank: the number of its next instruction, how many wires it has counted and outcomes it has used, its bits and its slots.
+#[derive(Drop)]
+pub(crate) struct Rank {
+    at: u32,
+    made: u32,
+    used: usize,
+    bits: [bool; BITS],
+    slots: [Option<Wire>; SLOTS],
+}
+
+impl Rank {
+    /// The bits as a number, bit 0 the lowest.
+    fn number(&self) -> u32
+        ensures { result ≡ number_of_bits self.now.bits }
+    {
+        let mut number = 0;
+        for k in 0..BITS {
+            number = 2 * number + u32::from(self.bits[BITS - 1 - k]);
+        }
+        number
+    }
+}
+
+/// All ranks and lanes.
+#[derive(Drop)]
+pub(crate) struct Tables {
+    ranks: Vec<Rank>,
+    lanes: Lanes<Load>,
+}
+
+/// The wire that a lane's front carries.
+fn wire_carried(front: Option<Load>) -> Wire
+    ensures { result ≡ wire_carried (load_in front) }
+{
+    match front {
+        Some(Load::Carried { wire }) => wire,
+        Some(Load::Told { .. }) | Some(Load::Token) | None => NO_WIRE,
+    }
+}
+
+/// The bit that a lane's front tells.
+fn bit_told(front: Option<Load>) -> bool
+    ensures { result ≡ bit_told (load_in front) }
+{
+    match front {
+        Some(Load::Told { bit }) => bit,
+        Some(Load::Carried { .. }) | Some(Load::Token) | None => false,
+    }
+}
+
+/// How many outcomes of a tape are used after one more, where one is left.
+#[tactic(auto, using(crate::proofs::TableLemmas::used_more, crate::proofs::TableLemmas::used_up))]
+fn used_after(own: &[bool], used: usize) -> usize
+    ensures { drop result own.now ≡ drop 1 (drop used own.now) }
+{
+    if used < own.len() { used + 1 } else { used }
+}
+
+impl Tables {
+    /// The ranks before their first instruction, and empty lanes. `AllocError` comes from the allocator alone.
+    pub(crate) fn start(alloc: Global, input: &Input) -> Result<Tables, AllocError>
+        ensures start { IfOk result (λ t. tables_of input.now t ≡ (ideal_at_start input.now).tables) }
+        ensures ranks { IfOk result (λ t. length t.ranks.items ≡ length input.now.ranks) }
+    {
+        let mut ranks = Vec::with_capacity(alloc, usize::from(input.ranks()))?;
+        for _ in 0..input.ranks() {
+            ranks.push_reserved(Rank {
+                at: 0,
+                made: 0,
+                used: 0,
+                bits: [false; BITS],
+                slots: [None; SLOTS],
+            });
+        }
+        Ok(Tables {
+            ranks,
+            lanes: Lanes::start(alloc),
+        })
+    }
+
+    /// The wire in a slot, where it is full.
+    pub(crate) fn slot(&self, rank: u16, q: u8) -> Option<Wire>
+        ensures { result ≡ slots_at self.now.ranks.items rank q }
+    {
+        match self.ranks.get(usize::from(rank)) {
+            Some(place) => match place.slots.get(usize::from(q)) {
+                Some(slot) => *slot,
+                None => None,
+            },
+            None => None,
+        }
+    }
+
+    /// The wire in a slot of the ranks at the end.
+    pub(crate) fn end_slot(&self, rank: u16, q: u8) -> Option<Wire>
+        ensures { result ≡ slice_index_or (slice_index_or (ends_of self.now) rank no_rank).slots q None }
+    {
+        self.slot(rank, q)
+    }
+
+    /// The wire in a full slot.
+    pub(crate) fn wire_in(&self, rank: u16, q: u8) -> Wire
+        ensures { result ≡ unwrap_or (slots_at self.now.ranks.items rank q) no_wire }
+    {
+        self.slot(rank, q).unwrap_or(NO_WIRE)
+    }
+
+    /// A bit of a rank; false where there is none.
+    pub(crate) fn bit(&self, input: &Input, rank: u16, b: u8) -> bool
+        requires { rank < length self.now.ranks.items }
+        ensures { result ≡ slice_index_or ((tables_of input.now self.now).parts rank).bits b false }
+    {
+        match self.ranks[usize::from(rank)].bits.get(usize::from(b)) {
+            Some(bit) => *bit,
+            None => false,
+        }
+    }
+
+    /// The bits of a rank as a number, bit 0 the lowest.
+    pub(crate) fn bits(&self, rank: u16) -> u32
+        requires { rank < length self.now.ranks.items }
+        ensures { result ≡ number_of_bits (slice_index_or (ends_of self.now) rank no_rank).bits }
+    {
+        self.ranks[usize::from(rank)].number()
+    }
+
+    /// The next outcome of a rank's own tape; false where none is left.
+    pub(crate) fn own_next(&self, input: &Input, rank: u16) -> bool
+        requires same { length self.now.ranks.items ≡ length input.now.ranks }
+        requires known { rank < length input.now.ranks }
+        ensures { result ≡ slice_index_or ((tables_of input.now self.now).parts rank).own 0 false }
+    {
+        match input.own(rank).get(self.ranks[usize::from(rank)].used) {
+            Some(outcome) => *outcome,
+            None => false,
+        }
+    }
+
+    /// The wire that a rank's count names.
+    pub(crate) fn made(&self, input: &Input, rank: u16) -> Wire
+        requires { rank < length self.now.ranks.items }
+        ensures { result ≡ ideal_made (tables_of input.now self.now) rank }
+    {
+        Wire {
+            rank,
+            made: self.ranks[usize::from(rank)].made,
+            near: false,
+        }
+    }
+
+    /// Whether a lane is empty.
+    pub(crate) fn is_empty(&self, input: &Input, lane: Lane) -> bool
+        ensures { result ≡ is_empty_lane (tables_of input.now self.now) lane }
+    {
+        self.lanes.is_empty(lane)
+    }
+
+    /// The wire at a lane's front.
+    pub(crate) fn front_wire(&self, input: &Input, lane: Lane) -> Wire
+        ensures { result ≡ wire_carried (load_at (tables_of input.now self.now) lane) }
+    {
+        wire_carried(self.lanes.front(lane))
+    }
+
+    /// The bit at a lane's front.
+    pub(crate) fn front_bit(&self, input: &Input, lane: Lane) -> bool
+        ensures { result ≡ bit_told (load_at (tables_of input.now self.now) lane) }
+    {
+        bit_told(self.lanes.front(lane))
+    }
+
+    /// The instruction at which a rank stands; none where there is no such rank.
+    pub(crate) fn current(&self, input: &Input, rank: u16) -> Option<Instr>
+        requires { length self.now.ranks.items ≡ length input.now.ranks }
+        ensures { result ≡ ideal_current input.now (tables_of input.now self.now) rank }
+    {
+        match self.ranks.get(usize::from(rank)) {
+            Some(place) => input.instr(rank, place.at),
+            None => None,
+        }
+    }
+
+    /// The wire that a rank offers, which stands at an `undofrom` or a `reachto`.
+    pub(crate) fn offered(&self, input: &Input, rank: u16) -> Wire
+        requires { length self.now.ranks.items ≡ length input.now.ranks }
+        ensures { result ≡ ideal_offered input.now (tables_of input.now self.now) rank }
+    {
+        match self.current(input, rank) {
+            Some(Instr::UndoFrom { q, .. }) | Some(Instr::ReachTo { q, .. }) => self.wire_in(
+                rank, q,
+            ),
+            _ => NO_WIRE,
+        }
+    }
+
+    /// Counts one wire more.
+    fn count(&mut self, input: &Input, rank: u16)
+        requires known { rank < length self.old.ranks.items }
+        requires few { ((tables_of input.now self.old).parts rank).made + 1 < 2 ^ 32 }
+        ensures did { tables_of input.now self.new ≡ ideal_done rank (tables_of input.now self.old) Counts }
+        ensures ranks { length self.new.ranks.items ≡ length self.old.ranks.items }
+    {
+        let place = &mut self.ranks[usize::from(rank)];
+        place.made += 1;
+    }
+
+    /// Fills a slot with a wire, or empties it.
+    fn set_slot(&mut self, input: &Input, rank: u16, q: u8, wire: Option<Wire>)
+        requires known { rank < length self.old.ranks.items }
+        requires slot { q < 16 }
+        ensures did { tables_of input.now self.new ≡ ideal_done rank (tables_of input.now self.old) (SlotSet q wire) }
+        ensures ranks { length self.new.ranks.items ≡ length self.old.ranks.items }
+    {
+        let place = &mut self.ranks[usize::from(rank)];
+        place.slots[usize::from(q)] = wire;
+    }
+
+    /// Uses an outcome of the own tape, where one is left.
+    fn use_own(&mut self, input: &Input, rank: u16)
+        requires same { length self.old.ranks.items ≡ length input.now.ranks }
+        requires known { rank < length input.now.ranks }
+        ensures did { tables_of input.now self.new ≡ ideal_done rank (tables_of input.now self.old) OwnUsed }
+        ensures ranks { length self.new.ranks.items ≡ length self.old.ranks.items }
+    {
+        let own = input.own(rank);
+        let place = &mut self.ranks[usize::from(rank)];
+        place.used = used_after(own, place.used);
+    }
+
+    /// Sets a bit.
+    fn set_bit(&mut self, input: &Input, rank: u16, b: u8, v: bool)
+        requires known { rank < length self.old.ranks.items }
+        requires bit { b < 32 }
+        ensures did { tables_of input.now self.new ≡ ideal_done rank (tables_of input.now self.old) (BitSet b v) }
+        ensures ranks { length self.new.ranks.items ≡ length self.old.ranks.items }
+    {
+        let place = &mut self.ranks[usize::from(rank)];
+        place.bits[usize::from(b)] = v;
+    }
+
+    /// Puts a load at a lane's end. `AllocError` comes from the allocator alone.
+    fn put(
+        &mut self,
+        alloc: Global,
+        input: &Input,
+        rank: u16,
+        lane: Lane,
+        load: Load,
+    ) -> Result<(), AllocError>
+        ensures did { OnOk result (tables_of input.now self.new ≡ ideal_done rank (tables_of input.now self.old) (Puts lane (load_meant load))) }
+        ensures ranks { length self.new.ranks.items ≡ length self.old.ranks.items }
+    {
+        self.lanes.put(alloc, lane, load)?;
+        Ok(())
+    }
+
+    /// Takes a lane's front away.
+    fn take(&mut self, input: &Input, rank: u16, lane: Lane)
+        ensures did { tables_of input.now self.new ≡ ideal_done rank (tables_of input.now self.old) (Takes lane) }
+        ensures ranks { length self.new.ranks.items ≡ length self.old.ranks.items }
+    {
+        self.lanes.take(lane);
+    }
+
+    /// Goes on to the next instruction.
+    pub(crate) fn move_on(&mut self, input: &Input, rank: u16)
+        requires known { rank < length self.old.ranks.items }
+        requires few { ((tables_of input.now self.old).parts rank).at + 1 < 2 ^ 32 }
+        ensures did { tables_of input.now self.new ≡ ideal_moved_on (tables_of input.now self.old) rank }
+        ensures ranks { length self.new.ranks.items ≡ length self.old.ranks.items }
+    {
+        let place = &mut self.ranks[usize::from(rank)];
+        place.at += 1;
+    }
+
+    /// Does an act of a rank. `AllocError` comes from the allocator alone.
+    pub(crate) fn act(
+        &mut self,
+        alloc: Global,
+        input: &Input,
+        rank: u16,
+        act: Act,
+    ) -> Result<(), AllocError>
+        requires same { length self.old.ranks.items ≡ length input.now.ranks }
+        requires known { rank < length input.now.ranks }
+        requires few { ((tables_of input.now self.old).parts rank).made + 1 < 2 ^ 32 }
+        requires small { IsSmall (act_meant act) }
+        ensures did { OnOk result (tables_of input.now self.new ≡ ideal_done rank (tables_of input.now self.old) (act_meant act)) }
+        ensures ranks { OnOk result (length self.new.ranks.items ≡ length self.old.ranks.items) }
+    {
+        match act {
+            Act::Counts => self.count(input, rank),
+            Act::SlotSet { q, wire } => self.set_slot(input, rank, q, wire),
+            Act::Puts { lane, load } => self.put(alloc, input, rank, lane, load)?,
+            Act::Takes { lane } => self.take(input, rank, lane),
+            Act::OwnUsed => self.use_own(input, rank),
+            Act::BitSet { b, v } => self.set_bit(input, rank, b, v),
+        }
+        Ok(())
+    }
+
+    /// Does the acts of a rank's step, one after another. `AllocError` comes from the allocator alone.
+    pub(crate) fn do_acts(
+        &mut self,
+        alloc: Global,
+        input: &Input,
+        rank: u16,
+        acts: Few<Act>,
+    ) -> Result<(), AllocError>
+        requires same { length self.old.ranks.items ≡ length input.now.ranks }
+        requires known { rank < length input.now.ranks }
+        requires few { ((tables_of input.now self.old).parts rank).made + 3 < 2 ^ 32 }
+        requires small { AllSmall (map act_meant (list_of acts)) }
+        ensures did { OnOk result (tables_of input.now self.new ≡ fold (ideal_done rank) (tables_of input.now self.old) (map act_meant (list_of acts))) }
+        ensures ranks { OnOk result (length self.new.ranks.items ≡ length self.old.ranks.items) }
+    {
+        match acts {
+            Few::Empty => {}
+            Few::One(a) => self.act(alloc, input, rank, a)?,
+            Few::Two(a, b) => {
+                self.act(alloc, input, rank, a)?;
+                self.act(alloc, input, rank, b)?;
+            }
+            Few::Three(a, b, c) => {
+                self.act(alloc, input, rank, a)?;
+                self.act(alloc, input, rank, b)?;
+                self.act(alloc, input, rank, c)?;
+            }
+        }
+        Ok(())
+    }
+}

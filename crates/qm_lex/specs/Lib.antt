@@ -1,0 +1,5 @@
+pub mod Bytes
+pub mod Pieces
+pub mod Lexing
+pub mod Spans
+pub mod Values

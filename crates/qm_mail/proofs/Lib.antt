@@ -1,0 +1,5 @@
+pub mod Shown
+pub mod Fronts
+pub mod Filling
+pub mod Starting
+pub mod Lanes

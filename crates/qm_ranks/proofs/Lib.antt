@@ -1,0 +1,6 @@
+pub mod Around
+pub mod Turning
+pub mod Playing
+pub mod Orders
+pub mod Existing
+pub mod Dues

@@ -1,0 +1,10 @@
+pub mod Tables
+pub mod Endings
+pub mod Stuck
+pub mod Safety
+pub mod Following
+pub mod Confluence
+pub mod WorkedOrders
+pub mod Weighing
+pub mod WorkedProgress
+pub mod Headline

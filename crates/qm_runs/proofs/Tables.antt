@@ -1,0 +1,19 @@
+-- What is so of the tables of a run at all times
+pub mod Lines
+pub mod Sums
+pub mod NextEvents
+pub mod RankSteps
+pub mod RankShapes
+pub mod LaneSteps
+pub mod LaneShapes
+pub mod FarSteps
+pub mod FarShapes
+pub mod HandShapes
+pub mod TidyShapes
+pub mod HeldCounts
+pub mod Standing
+pub mod Rooms
+pub mod Mays
+pub mod Counting
+pub mod EventRooms
+pub mod Stages

@@ -1,0 +1,28 @@
+-- The worked schedules compute
+use Rattle.std.proofs.Common.{refl}
+use Rattle.qm_instr.specs.Lanes.{is_lane}
+use Rattle.qm_runs.specs.Following.Debts.{is_message}
+use Rattle.qm_runs.specs.Following.Deciding.{ideal_of}
+use Rattle.qm_runs.specs.WorkedProgress.{WorkedProgress}
+
+pub worked_progress : WorkedProgress
+unfolding is_lane is_message ideal_of
+worked_progress = record {
+  copy_by_one = refl;
+  copy_by_zero = refl;
+  move_by_one_zero = refl;
+  move_by_zero_one = refl;
+  move_by_ones = refl;
+  undo_by_one = refl;
+  undo_by_zero = refl;
+  reach_by_one_zero = refl;
+  reach_by_zero_one = refl;
+  copy_ideal = refl;
+  copy_not_yet = refl;
+  move_ideal = refl;
+  move_not_yet = refl;
+  undo_ideal = refl;
+  undo_not_yet = refl;
+  reach_ideal = refl;
+  reach_not_yet = refl;
+}

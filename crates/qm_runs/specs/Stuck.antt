@@ -1,0 +1,4 @@
+-- Which programs never get stuck, and what complete schedules leave on the lanes
+pub mod NeverStuck
+pub mod LanesEmpty
+pub mod Rendezvous

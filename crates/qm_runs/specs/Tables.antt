@@ -1,0 +1,5 @@
+-- The tables of a run at all times
+pub mod Lines
+pub mod Totals
+pub mod Well
+pub mod Rooms

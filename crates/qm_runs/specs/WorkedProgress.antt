@@ -1,0 +1,94 @@
+-- What schedules have begun, have still to correct, and have settled after each event, worked out by hand
+use Rattle.std.specs.Prelude.{◌≡◌, ℕ, true, false, List, [], ◌∷◌}
+use Rattle.qm_denot.specs.declared.Letter.{Letter}
+use Rattle.qm_denot.specs.declared.Letter.TheVariants.{Phase, Flip, Had, Cx, Pair, Take}
+use Rattle.qm_denot.specs.Tags.{Tagged}
+use Rattle.qm_instr.specs.Programs.{Programs}
+use Rattle.qm_proto.specs.Model.Schedules.{state_at_start}
+use Rattle.qm_proto.specs.WorkedMessages.{q, e, f, t}
+use Rattle.qm_proto.specs.WorkedPrograms.{copy_programs, uncopy_programs, move_programs, reach_programs}
+use Rattle.qm_runs.specs.Following.Debts.{Message, ByPair, BackTo}
+use Rattle.qm_runs.specs.Following.Deciding.{ideal_of}
+use Rattle.qm_runs.specs.Following.Simulation.{Progress, progress_next}
+
+-- the letters begun, the corrections due, and the outcomes settled
+abbrev pub Shown : Type 0
+Shown = Tagged Message × Tagged Message × ℕ
+
+abbrev pub shown_from : Programs → Progress → List ℕ → List Shown
+shown_from p x [] = []
+shown_from p x (r ∷ rs) = let y = progress_next p x r in (y.begun, y.pending, y.settled) ∷ shown_from p y rs
+
+-- after each event of a schedule
+abbrev pub shown_after : Programs → List ℕ → List Shown
+shown_after p schedule = shown_from p (record { state = state_at_start p; begun = []; pending = []; settled = 0 }) schedule
+
+-- letters of the message of the first pair of rank 0, and of an undo to rank 0
+abbrev paired : List Letter → Tagged Message
+paired [] = []
+paired (l ∷ ls) = (ByPair 0 1, l) ∷ paired ls
+
+abbrev given : List Letter → Tagged Message
+given [] = []
+given (l ∷ ls) = (BackTo 0, l) ∷ given ls
+
+-- nothing begun and nothing due, with so many outcomes settled
+abbrev settled : ℕ → Shown
+settled n = ([], [], n)
+
+abbrev begun : List Letter → ℕ → Shown
+begun ls n = (paired ls, [], n)
+
+abbrev due : List Letter → ℕ → Shown
+due ls n = ([], paired ls, n)
+
+pub record WorkedProgress : Type 0 where
+  -- a copy: made after two events of its rank alone, posted, delivered, and corrected where the outcome is one
+  pub copy_by_one : shown_after (copy_programs true) (0 ∷ 0 ∷ 0 ∷ 0 ∷ 0 ∷ 1 ∷ 1 ∷ [])
+      ≡ settled 0 ∷ settled 0 ∷ begun (Pair e f ∷ []) 0 ∷ begun (Pair e f ∷ Cx q e ∷ []) 0
+      ∷ due (Flip f ∷ []) 1 ∷ due (Flip f ∷ []) 1 ∷ settled 1 ∷ []
+  pub copy_by_zero : shown_after (copy_programs false) (0 ∷ 0 ∷ 0 ∷ 0 ∷ 0 ∷ 1 ∷ 1 ∷ [])
+      ≡ settled 0 ∷ settled 0 ∷ begun (Pair e f ∷ []) 0 ∷ begun (Pair e f ∷ Cx q e ∷ []) 0 ∷ settled 1 ∷ settled 1 ∷ settled 1 ∷ []
+  -- a move: the outcome on the near half is flipped, the one on the qubit is a change of sign
+  pub move_by_one_zero : shown_after (move_programs true false) (0 ∷ 0 ∷ 0 ∷ 0 ∷ 0 ∷ 0 ∷ 1 ∷ 1 ∷ 1 ∷ [])
+      ≡ settled 0 ∷ begun (Pair e f ∷ []) 0 ∷ begun (Pair e f ∷ Cx q e ∷ []) 0 ∷ begun (Pair e f ∷ Cx q e ∷ Had q ∷ []) 0
+      ∷ begun (Pair e f ∷ Cx q e ∷ Had q ∷ Take e true ∷ []) 0
+      ∷ due (Flip f ∷ []) 2 ∷ due (Flip f ∷ []) 2 ∷ settled 2 ∷ settled 2 ∷ []
+  pub move_by_zero_one : shown_after (move_programs false true) (0 ∷ 0 ∷ 0 ∷ 0 ∷ 0 ∷ 0 ∷ 1 ∷ 1 ∷ 1 ∷ [])
+      ≡ settled 0 ∷ begun (Pair e f ∷ []) 0 ∷ begun (Pair e f ∷ Cx q e ∷ []) 0 ∷ begun (Pair e f ∷ Cx q e ∷ Had q ∷ []) 0
+      ∷ begun (Pair e f ∷ Cx q e ∷ Had q ∷ Take e false ∷ []) 0
+      ∷ due (Phase 4 f ∷ []) 2 ∷ due (Phase 4 f ∷ []) 2 ∷ due (Phase 4 f ∷ []) 2 ∷ settled 2 ∷ []
+  -- with both, the flip is done first and stands last
+  pub move_by_ones : shown_after (move_programs true true) (0 ∷ 0 ∷ 0 ∷ 0 ∷ 0 ∷ 0 ∷ 1 ∷ 1 ∷ 1 ∷ [])
+      ≡ settled 0 ∷ begun (Pair e f ∷ []) 0 ∷ begun (Pair e f ∷ Cx q e ∷ []) 0 ∷ begun (Pair e f ∷ Cx q e ∷ Had q ∷ []) 0
+      ∷ begun (Pair e f ∷ Cx q e ∷ Had q ∷ Take e true ∷ []) 0
+      ∷ due (Phase 4 f ∷ Flip f ∷ []) 2 ∷ due (Phase 4 f ∷ Flip f ∷ []) 2 ∷ due (Phase 4 f ∷ []) 2 ∷ settled 2 ∷ []
+  -- an undo after a copy that was corrected: begun by its test, and due at the source
+  pub undo_by_one : shown_after (uncopy_programs false true) (0 ∷ 0 ∷ 0 ∷ 0 ∷ 1 ∷ 1 ∷ 1 ∷ 1 ∷ 0 ∷ 0 ∷ [])
+      ≡ settled 0 ∷ begun (Pair e f ∷ []) 0 ∷ begun (Pair e f ∷ Cx q e ∷ []) 0 ∷ settled 1 ∷ settled 1 ∷ settled 1
+      ∷ (given (Had f ∷ []), [], 1) ∷ ([], given (Phase 4 q ∷ []), 2) ∷ ([], given (Phase 4 q ∷ []), 2) ∷ settled 2 ∷ []
+  pub undo_by_zero : shown_after (uncopy_programs true false) (0 ∷ 0 ∷ 0 ∷ 0 ∷ 1 ∷ 1 ∷ 1 ∷ 1 ∷ 0 ∷ 0 ∷ [])
+      ≡ settled 0 ∷ begun (Pair e f ∷ []) 0 ∷ begun (Pair e f ∷ Cx q e ∷ []) 0 ∷ due (Flip f ∷ []) 1 ∷ due (Flip f ∷ []) 1 ∷ settled 1
+      ∷ (given (Had f ∷ []), [], 1) ∷ settled 2 ∷ settled 2 ∷ settled 2 ∷ []
+  -- a reach is begun up to its second Post, which settles both outcomes
+  pub reach_by_one_zero : shown_after (reach_programs true false) (0 ∷ 1 ∷ 0 ∷ 0 ∷ 0 ∷ 1 ∷ 1 ∷ 1 ∷ 1 ∷ 1 ∷ 0 ∷ 0 ∷ [])
+      ≡ settled 0 ∷ settled 0 ∷ begun (Pair e f ∷ []) 0 ∷ begun (Pair e f ∷ Cx q e ∷ []) 0
+      ∷ begun (Pair e f ∷ Cx q e ∷ Take e true ∷ []) 0 ∷ begun (Pair e f ∷ Cx q e ∷ Take e true ∷ []) 0
+      ∷ begun (Pair e f ∷ Cx q e ∷ Take e true ∷ Flip f ∷ []) 0 ∷ begun (Pair e f ∷ Cx q e ∷ Take e true ∷ Flip f ∷ Cx f t ∷ []) 0
+      ∷ begun (Pair e f ∷ Cx q e ∷ Take e true ∷ Flip f ∷ Cx f t ∷ Had f ∷ []) 0
+      ∷ settled 2 ∷ settled 2 ∷ settled 2 ∷ []
+  pub reach_by_zero_one : shown_after (reach_programs false true) (0 ∷ 1 ∷ 0 ∷ 0 ∷ 0 ∷ 1 ∷ 1 ∷ 1 ∷ 1 ∷ 1 ∷ 0 ∷ 0 ∷ [])
+      ≡ settled 0 ∷ settled 0 ∷ begun (Pair e f ∷ []) 0 ∷ begun (Pair e f ∷ Cx q e ∷ []) 0
+      ∷ begun (Pair e f ∷ Cx q e ∷ Take e false ∷ []) 0 ∷ begun (Pair e f ∷ Cx q e ∷ Take e false ∷ []) 0
+      ∷ begun (Pair e f ∷ Cx q e ∷ Take e false ∷ []) 0 ∷ begun (Pair e f ∷ Cx q e ∷ Take e false ∷ Cx f t ∷ []) 0
+      ∷ begun (Pair e f ∷ Cx q e ∷ Take e false ∷ Cx f t ∷ Had f ∷ []) 0
+      ∷ due (Phase 4 q ∷ []) 2 ∷ due (Phase 4 q ∷ []) 2 ∷ settled 2 ∷ []
+  -- the ranks of the deciding events: the Post of a copy, a move and an undo, and of a reach's receiver before the Deliver of its sender
+  pub copy_ideal : ideal_of (copy_programs true) (0 ∷ 0 ∷ 0 ∷ 0 ∷ 0 ∷ 1 ∷ 1 ∷ []) ≡ 0 ∷ 0 ∷ 0 ∷ 1 ∷ []
+  pub copy_not_yet : ideal_of (copy_programs true) (0 ∷ 0 ∷ 0 ∷ 0 ∷ []) ≡ 0 ∷ 0 ∷ []
+  pub move_ideal : ideal_of (move_programs true false) (0 ∷ 0 ∷ 0 ∷ 0 ∷ 0 ∷ 0 ∷ 1 ∷ []) ≡ 0 ∷ 0 ∷ 1 ∷ []
+  pub move_not_yet : ideal_of (move_programs true false) (0 ∷ 0 ∷ 0 ∷ 0 ∷ 0 ∷ []) ≡ 0 ∷ []
+  pub undo_ideal : ideal_of (uncopy_programs true false) (0 ∷ 0 ∷ 0 ∷ 0 ∷ 1 ∷ 1 ∷ 1 ∷ 1 ∷ 0 ∷ []) ≡ 0 ∷ 0 ∷ 1 ∷ 1 ∷ 0 ∷ []
+  pub undo_not_yet : ideal_of (uncopy_programs true false) (0 ∷ 0 ∷ 0 ∷ 0 ∷ 1 ∷ 1 ∷ 1 ∷ []) ≡ 0 ∷ 0 ∷ 1 ∷ []
+  pub reach_ideal : ideal_of (reach_programs true false) (0 ∷ 1 ∷ 0 ∷ 0 ∷ 0 ∷ 1 ∷ 1 ∷ 1 ∷ 1 ∷ 1 ∷ 0 ∷ []) ≡ 0 ∷ 1 ∷ 1 ∷ 0 ∷ []
+  pub reach_not_yet : ideal_of (reach_programs true false) (0 ∷ 1 ∷ 0 ∷ 0 ∷ 0 ∷ 1 ∷ 1 ∷ 1 ∷ 1 ∷ []) ≡ 0 ∷ 1 ∷ []

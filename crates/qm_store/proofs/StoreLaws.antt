@@ -1,0 +1,75 @@
+-- Places of different wires, numbers of shortened lists, and lists of which some number leaves the range
+use Rattle.std.proofs.Common.{◌≡◌, ◌≢◌, ℕ, zero, suc, ◌+◌, ◌*◌, ◌<◌, ◌^◌, ◌⊎◌, inl, inr, List, [], ◌∷◌, length, take, refl, sym, subst, ◌∙◌, arith}
+use mathlib.Core.Path.{fun_ext}
+use Rattle.std.proofs.lemmas.Bool.{cases_lt}
+use Rattle.std.proofs.lemmas.Nat.{pow-add, pow_below}
+use Rattle.std.specs.Prelude.{unsigned_abs}
+use Rattle.qm_zomega.specs.declared.Zw.{Zw}
+use Rattle.qm_zomega.specs.Numbers.{Number, zero_number}
+use Rattle.qm_zomega.specs.NumberLists.{number_at, IsListOf}
+use Rattle.qm_zomega.specs.Range.{FitsZw}
+use Rattle.qm_denot.specs.declared.Wire.{Wire}
+use Rattle.qm_denot.specs.Places.{IsFirstAt}
+use Rattle.qm_denot.specs.LettersByPlace.{pair_at}
+
+-- ---- places
+same_first : (ws : List Wire) (p : ℕ) (v w : Wire) → IsFirstAt ws p v → IsFirstAt ws p w → v ≡ w
+same_first [] p v w a b = absurd a
+same_first (u ∷ ws) zero v w a b = sym a ∙ b
+same_first (u ∷ ws) (suc p) v w a b = same_first ws p v w a.1 b.1
+
+pub places_differ : (ws : List Wire) (p q : ℕ) (v w : Wire) → IsFirstAt ws p v → IsFirstAt ws q w → v ≢ w → p ≢ q
+places_differ ws p q v w a b ne e = ne (same_first ws q v w (subst (λ n. IsFirstAt ws n v) e a) b)
+
+-- ---- shortened lists
+pub number_at-take : (n : ℕ) (zs : List Zw) (i : ℕ) → i < n → number_at (take n zs) i ≡ number_at zs i
+number_at-take zero zs i h = absurd (omega arith)
+number_at-take (suc n) [] i h = refl
+number_at-take (suc n) (z ∷ zs) zero h = refl
+number_at-take (suc n) (z ∷ zs) (suc i) h = number_at-take n zs i (omega arith)
+
+-- ---- four times as many numbers, the new ones zero
+pub four_times : (n size : ℕ) → size ≡ 2 ^ n → 4 * size ≡ 2 ^ (n + 2)
+four_times n size e = let p = pow-add 2 n 2 in omega arith
+
+pub paired_from : (n : ℕ) (old grown new : List Zw) → length grown ≡ length old * 4 → ((i : ℕ) → number_at grown i ≡ number_at old i)
+    → IsListOf new (length grown) (pair_at zero_number n (number_at grown)) → IsListOf new (length old * 4) (pair_at zero_number n (number_at old))
+paired_from n old grown new size same paired =
+    let all : number_at grown ≡ number_at old = fun_ext same in
+    subst (λ m. IsListOf new m (pair_at zero_number n (number_at old))) size (subst (λ (f : ℕ → Number). IsListOf new (length grown) (pair_at zero_number n f)) all paired)
+
+-- ---- whether all numbers of a list stay in the range
+in_range_or_not : (x : ℕ) → (x < 2 ^ 127) ⊎ (x < 2 ^ 127 → ⊥)
+in_range_or_not x = elim (cases_lt x (2 ^ 127)) [ inl lt ↦ inl lt | inr le ↦ inr (λ lt. omega arith) ]
+
+fits_or_not : (z : Number) → FitsZw z ⊎ (FitsZw z → ⊥)
+fits_or_not z = elim (in_range_or_not (unsigned_abs z.a)) [
+  | inr out ↦ inr (λ f. out f.a_fits)
+  | inl a ↦ elim (in_range_or_not (unsigned_abs z.b)) [
+    | inr out ↦ inr (λ f. out f.b_fits)
+    | inl b ↦ elim (in_range_or_not (unsigned_abs z.c)) [
+      | inr out ↦ inr (λ f. out f.c_fits)
+      | inl c ↦ elim (in_range_or_not (unsigned_abs z.d)) [
+        | inr out ↦ inr (λ f. out f.d_fits)
+        | inl d ↦ inl (record { a_fits = a; b_fits = b; c_fits = c; d_fits = d })
+      ]
+    ]
+  ]
+]
+
+all_or_unfit : (n : ℕ) (g : ℕ → Number) → ((i : ℕ) → i < n → FitsZw (g i)) ⊎ ((i : ℕ) × (i < n) × (¬ (FitsZw (g i))))
+all_or_unfit zero g = inl (λ i h. absurd (omega arith))
+all_or_unfit (suc n) g = elim (all_or_unfit n g) [
+  | inr some ↦ inr (some.0, (let h = some.1 in omega arith), some.2)
+  | inl all ↦ elim (fits_or_not (g n)) [
+    | inr out ↦ inr (n, omega arith, out)
+    | inl here ↦ inl (λ i h. elim (cases_lt i n) [ inl lt ↦ all i lt | inr le ↦ let e : n ≡ i = omega arith in subst (λ k. FitsZw (g k)) e here ])
+  ]
+]
+
+pub some_unfit : (n : ℕ) (g : ℕ → Number) → (((i : ℕ) → i < n → FitsZw (g i)) → ⊥) → (i : ℕ) × (i < n) × (¬ (FitsZw (g i)))
+some_unfit n g never = elim (all_or_unfit n g) [ inr some ↦ some | inl all ↦ absurd (never all) ]
+
+-- a power that fits 32 bits
+pub power_fits : (p : ℕ) → p < 32 → 2 ^ p < 2 ^ 32
+power_fits p h = pow_below p 32 h

@@ -1,0 +1,238 @@
+//! A store of amplitudes in one thread, in place.
+//!
+//! It keeps the numerators of the sets of live wires in one list, of which place p of an index is the live wire at position p, so the
+//! wire that became live last has the highest place. The list is reserved once, and each letter rewrites it in place.
+#![tactic(auto)]
+
+ghost use Rattle.std.specs.Prelude.{◌≡◌, ◌≤◌, ◌^◌, length};
+ghost use Rattle.std.specs.Vec.{vec_capacity};
+ghost use Rattle.qm_denot.specs.Sound.{Keeps, Keeps-prop};
+
+mod lists;
+#[cfg(test)]
+mod tests;
+
+use lists::{double, pair_list, power, take_list};
+use qm_denot::{Amps, Letter, Overflow, Wire, any_unequal, any_with, index_at, place_of};
+use qm_scale::reduce;
+use qm_zomega::Zw;
+use std::alloc::{AllocError, Global};
+
+/// A store of amplitudes in one thread, in place.
+///
+/// Letters that cannot make the numbers divisible by root2 leave the form reduced; after the others it is reduced, by a test that ends
+/// at the first number that root2 does not divide. A Hadamard tests all sums before it writes the first of them.
+#[derive(Drop)]
+pub struct ScaledAmps {
+    capacity: u32,
+    live: Vec<Wire>,
+    numerators: Vec<Zw>,
+    exponent: u64,
+    ghost small: { capacity ≤ 22 },
+    ghost few: { length live.items ≤ capacity },
+    ghost live_room: { capacity ≤ vec_capacity live },
+    ghost size: { length numerators.items ≡ 2 ^ length live.items },
+    ghost room: { 2 ^ capacity ≤ vec_capacity numerators },
+    ghost kept: { Keeps live.items numerators.items exponent } by { Keeps-prop live.items numerators.items exponent },
+}
+
+impl ScaledAmps {
+    ghost use Rattle.std.specs.Prelude.{◌≡◌, ◌≢◌, ◌+◌, ◌<◌, ◌≤◌, ◌↔◌, [], length, Contains, IfOk, IsErr, OnOk, OnErr};
+    ghost use Rattle.qm_denot.specs.Stores.{StandsFor, Overflows, MayApply};
+    ghost use Rattle.qm_denot.specs.ListStores.{Does, listed_store};
+
+    /// A store with room for so many live wires, that stands for the empty circuit.
+    ///
+    /// All memory is taken here, and `AllocError` comes only for want of it.
+    pub fn start(alloc: Global, capacity: u32) -> Result<ScaledAmps, AllocError>
+        requires { capacity ≤ 22 }
+        ensures stands { IfOk result (λ s. StandsFor (⟦<ScaledAmps as Amps>⟧.store s) []) }
+        ensures live { IfOk result (λ s. (⟦<ScaledAmps as Amps>⟧.store s).live ≡ []) }
+        ensures capacity { IfOk result (λ s. (⟦<ScaledAmps as Amps>⟧.store s).capacity ≡ capacity) }
+    {
+        let size = power(capacity);
+        let mut numerators = Vec::with_capacity(alloc, size)?;
+        let _ = numerators.push(Zw::ONE);
+        Ok(ScaledAmps {
+            capacity,
+            live: Vec::with_capacity(alloc, capacity as usize)?,
+            numerators,
+            exponent: 0,
+        })
+    }
+
+    fn phase(&mut self, k: u8, w: Wire)
+        requires may { MayApply (Letter.Phase k w) (⟦<ScaledAmps as Amps>⟧.store self.old) }
+        ensures { Does (Letter.Phase k w) (⟦<ScaledAmps as Amps>⟧.store self.old) (⟦<ScaledAmps as Amps>⟧.store self.new) }
+    {
+        let place = place_of(&self.live, w);
+        qm_kernels::phase(&mut self.numerators, place, k);
+    }
+
+    fn flip(&mut self, w: Wire)
+        requires may { MayApply (Letter.Flip w) (⟦<ScaledAmps as Amps>⟧.store self.old) }
+        ensures { Does (Letter.Flip w) (⟦<ScaledAmps as Amps>⟧.store self.old) (⟦<ScaledAmps as Amps>⟧.store self.new) }
+    {
+        let place = place_of(&self.live, w);
+        qm_kernels::flip(&mut self.numerators, place);
+    }
+
+    fn cx(&mut self, c: Wire, t: Wire)
+        requires may { MayApply (Letter.Cx c t) (⟦<ScaledAmps as Amps>⟧.store self.old) }
+        ensures { Does (Letter.Cx c t) (⟦<ScaledAmps as Amps>⟧.store self.old) (⟦<ScaledAmps as Amps>⟧.store self.new) }
+    {
+        let control = place_of(&self.live, c);
+        let target = place_of(&self.live, t);
+        qm_kernels::cross(&mut self.numerators, control, target);
+    }
+
+    fn cz(&mut self, c: Wire, t: Wire)
+        requires may { MayApply (Letter.Cz c t) (⟦<ScaledAmps as Amps>⟧.store self.old) }
+        ensures { Does (Letter.Cz c t) (⟦<ScaledAmps as Amps>⟧.store self.old) (⟦<ScaledAmps as Amps>⟧.store self.new) }
+    {
+        let one = place_of(&self.live, c);
+        let other = place_of(&self.live, t);
+        qm_kernels::sign(&mut self.numerators, one, other);
+    }
+
+    fn keep(&mut self, w: Wire, m: bool)
+        requires may { MayApply (Letter.Keep w m) (⟦<ScaledAmps as Amps>⟧.store self.old) }
+        ensures { Does (Letter.Keep w m) (⟦<ScaledAmps as Amps>⟧.store self.old) (⟦<ScaledAmps as Amps>⟧.store self.new) }
+    {
+        let place = place_of(&self.live, w);
+        let list = self.numerators.as_mut_slice();
+        qm_kernels::keep(list, place, m);
+        reduce(list, &mut self.exponent);
+    }
+
+    fn had(&mut self, w: Wire) -> Result<(), Overflow>
+        requires may { MayApply (Letter.Had w) (⟦<ScaledAmps as Amps>⟧.store self.old) }
+        ensures does { OnOk result (Does (Letter.Had w) (⟦<ScaledAmps as Amps>⟧.store self.old) (⟦<ScaledAmps as Amps>⟧.store self.new)) }
+        ensures overflow { IsErr result ↔ Overflows (Letter.Had w) (⟦<ScaledAmps as Amps>⟧.store self.old) }
+        ensures unchanged { OnErr result (⟦<ScaledAmps as Amps>⟧.store self.new ≡ ⟦<ScaledAmps as Amps>⟧.store self.old) }
+    {
+        let place = place_of(&self.live, w);
+        if !qm_kernels::had_fits(&self.numerators, place) {
+            return Err(Overflow);
+        }
+        let list = self.numerators.as_mut_slice();
+        qm_kernels::had(list, place);
+        self.exponent += 1;
+        reduce(list, &mut self.exponent);
+        Ok(())
+    }
+
+    fn pair(&mut self, a: Wire, b: Wire)
+        requires may { MayApply (Letter.Pair a b) (⟦<ScaledAmps as Amps>⟧.store self.old) }
+        ensures { Does (Letter.Pair a b) (⟦<ScaledAmps as Amps>⟧.store self.old) (⟦<ScaledAmps as Amps>⟧.store self.new) }
+    {
+        let count = self.live.len() as u32;
+        pair_list(&mut self.numerators, count);
+        let _ = self.live.push(a);
+        let _ = self.live.push(b);
+        self.exponent += 1;
+        reduce(&mut self.numerators, &mut self.exponent);
+    }
+
+    fn take(&mut self, w: Wire, m: bool)
+        requires may { MayApply (Letter.Take w m) (⟦<ScaledAmps as Amps>⟧.store self.old) }
+        ensures { Does (Letter.Take w m) (⟦<ScaledAmps as Amps>⟧.store self.old) (⟦<ScaledAmps as Amps>⟧.store self.new) }
+    {
+        let place = place_of(&self.live, w);
+        take_list(&mut self.numerators, place, m);
+        let _ = self.live.remove(place as usize);
+        reduce(&mut self.numerators, &mut self.exponent);
+    }
+
+    fn rename(&mut self, a: Wire, b: Wire)
+        requires may { MayApply (Letter.Rename a b) (⟦<ScaledAmps as Amps>⟧.store self.old) }
+        ensures { Does (Letter.Rename a b) (⟦<ScaledAmps as Amps>⟧.store self.old) (⟦<ScaledAmps as Amps>⟧.store self.new) }
+    {
+        let place = place_of(&self.live, a);
+        self.live[place as usize] = b;
+    }
+}
+
+impl Amps for ScaledAmps {
+    ghost use Rattle.qm_denot.specs.ListStores.{listed_store};
+    ghost use Rattle.qm_denot.specs.Sound.{listed_sound};
+
+    ghost able = { Unit {0} };
+
+    ghost store = { λ s. listed_store s.capacity s.live.items s.exponent s.numerators.items };
+
+    fn live(&self) -> &[Wire] {
+        self.live.as_slice()
+    }
+
+    fn room(&self) -> u32 {
+        self.capacity - self.live.len() as u32
+    }
+
+    fn fresh(&mut self, w: Wire) {
+        let _ = self.live.push(w);
+        double(&mut self.numerators);
+    }
+
+    fn apply(&mut self, letter: Letter) -> Result<(), Overflow> {
+        match letter {
+            Letter::Phase { k, w } => {
+                self.phase(k, w);
+                Ok(())
+            }
+            Letter::Flip { w } => {
+                self.flip(w);
+                Ok(())
+            }
+            Letter::Had { w } => self.had(w),
+            Letter::Cx { c, t } => {
+                self.cx(c, t);
+                Ok(())
+            }
+            Letter::Cz { c, t } => {
+                self.cz(c, t);
+                Ok(())
+            }
+            Letter::Pair { a, b } => {
+                self.pair(a, b);
+                Ok(())
+            }
+            Letter::Keep { w, m } => {
+                self.keep(w, m);
+                Ok(())
+            }
+            Letter::Take { w, m } => {
+                self.take(w, m);
+                Ok(())
+            }
+            Letter::Rename { a, b } => {
+                self.rename(a, b);
+                Ok(())
+            }
+        }
+    }
+
+    fn can_be(&self, w: Wire, m: bool) -> bool {
+        any_with(&self.numerators, place_of(&self.live, w), m)
+    }
+
+    fn always_zero(&self, w: Wire) -> bool {
+        !any_with(&self.numerators, place_of(&self.live, w), true)
+    }
+
+    fn always_equal(&self, w: Wire, v: Wire) -> bool {
+        let one = place_of(&self.live, w);
+        let other = place_of(&self.live, v);
+        !any_unequal(&self.numerators, one, other)
+    }
+
+    fn exponent(&self) -> u64 {
+        self.exponent
+    }
+
+    fn value(&self, ones: &[Wire]) -> Zw {
+        self.numerators[index_at(&self.live, ones)]
+    }
+
+    ghost sound = { λ s. listed_sound s.capacity s.live.items s.exponent s.numerators.items s.few s.kept };
+}
