@@ -1,23 +1,33 @@
 #!/usr/bin/env bash
-# Times the steps of the machine under `plain`: nanoseconds for a flip of a lone qubit, where the store has next to nothing to do.
-# The time of the same program with a fault at its end, which is read and checked and not run, is taken off. Wants a built program: run
-# `rt ci` first.
+# Times the steps of the machine under `plain`, where the store has next to nothing to do: nanoseconds for a flip of a lone qubit, and for
+# an event of a qubit that two ranks move to and fro. The time of the same program with a fault at its end, which is read and checked and
+# not run, is taken off. Wants a built program: run `rt ci` first.
 set -euo pipefail
 top=$(cd "$(dirname "${BASH_SOURCE[0]}")/.." && pwd)
 program=${1:-$top/crates/qmpi/out/qmpi}
 [ -x "$program" ] || { echo "no program at $program: run 'rt ci' first" >&2; exit 1; }
 
 flips=99998
+rounds=15000
 texts=$(mktemp -d)
 trap 'rm -rf "$texts"' EXIT
 
-write() {  # a program of so many flips, and the instruction at its end
+flip() {  # a program of so many flips, and the instruction at its end
   echo "qmpi 1 ranks 1 qubits 1 buffer 1 rank 0 alloc 0"
   seq "$flips" | sed "s/.*/x 0/"
   echo "$1 end"
 }
 
-best() {  # the least of nine wall times in nanoseconds, of a run that ends with this status
+move() {  # a program of so many moves to rank 1 and back, and the instruction at the end of rank 0
+  echo "qmpi 1 ranks 2 qubits 1 buffer 1 rank 0 alloc 0"
+  seq "$rounds" | sed "s/.*/moveto 0 1 7 movefrom 0 1 7/"
+  echo "$1 end rank 1"
+  seq "$rounds" | sed "s/.*/movefrom 0 0 7 moveto 0 0 7/"
+  echo "end"
+  for rank in 0 1; do printf "protocol %d b%0*d\n" "$rank" $((2 * rounds)) 0; done
+}
+
+best() {  # the least of nine wall times in nanoseconds, of a run that ends well, or of one that doesn't
   local least=0 start stop status
   for _ in 1 2 3 4 5 6 7 8 9; do
     status=0
@@ -30,7 +40,13 @@ best() {  # the least of nine wall times in nanoseconds, of a run that ends with
   echo "$least"
 }
 
-write "x 0" > "$texts/run"
-write "alloc 0" > "$texts/refused"
-spent=$(($(best "$texts/run" 1) - $(best "$texts/refused" 0)))
-awk -v c="$((flips + 2))" -v t="$spent" 'BEGIN { printf "%d steps of one rank: %.0f ns for a step\n", c, t / c }'
+time_steps() {  # of the program that this function writes, which has so many steps
+  local spent
+  "$1" "x 0" > "$texts/run"
+  "$1" "alloc 0" > "$texts/refused"
+  spent=$(($(best "$texts/run" 1) - $(best "$texts/refused" 0)))
+  awk -v name="$1" -v c="$2" -v t="$spent" 'BEGIN { printf "%s, %d steps: %.0f ns for a step\n", name, c, t / c }'
+}
+
+time_steps flip $((flips + 2))
+time_steps move $((rounds * 16 + 2))

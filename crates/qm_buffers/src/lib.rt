@@ -74,7 +74,8 @@ impl Halves {
     /// another place.
     pub fn may_pair(&self, to: u16, wanted: bool) -> bool
         requires { to < length self.now }
-        ensures { IsTrue result ↔ (IsTrue wanted ⊎ ((buffer_at self.now to).held + 1 < (buffer_at self.now to).size)) }
+        ensures { IsTrue result
+            ↔ (IsTrue wanted ⊎ ((buffer_at self.now to).held + 1 < (buffer_at self.now to).size)) }
     {
         let buffer = self.buffers[usize::from(to)];
         wanted || buffer.held + 1 < buffer.size

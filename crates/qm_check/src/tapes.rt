@@ -27,7 +27,8 @@ fn fault_of_length(rank: u16, own: bool, needs: u64, tape: &[bool]) -> Option<Fa
 /// The fault of a rank's own tape, else that of its protocol tape.
 fn fault_of_rank(input: &Input, rank: u16) -> Option<Fault>
     requires { rank < length input.now.ranks }
-    ensures { result ≡ option_or (tape_fault input.now rank true) (tape_fault input.now rank false) }
+    ensures { result ≡ option_or (tape_fault input.now rank true)
+        (tape_fault input.now rank false) }
 {
     let totals = rank_totals(input, rank);
     let own = fault_of_length(rank, true, totals.own, input.own(rank));

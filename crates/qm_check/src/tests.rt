@@ -1,3 +1,4 @@
+//! Each fault of the check by its smallest program, and which of two faults is told.
 ghost use Rattle.qm_instr.specs.Operands.{HasOperands};
 
 use crate::{CheckError, Fault, LaneCount, check};

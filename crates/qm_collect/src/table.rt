@@ -85,7 +85,8 @@ fn message(which: Collective, ranks: u16, j: u32) -> Option<Instr>
     requires root { root_of which < ranks }
     requires ranks { ranks ≤ 16 }
     requires slots { All (λ q. q < 16) (slots_of which) }
-    ensures { result ≡ option_map (line_of which).message (slice_get (others (root_of which) ranks) j) }
+    ensures { result ≡ option_map (line_of which).message
+        (slice_get (others (root_of which) ranks) j) }
 {
     let d = other(root(which), ranks, j)?;
     Some(message_with(which, d))

@@ -1,3 +1,4 @@
+-- Amplitudes and halvings of letters one after another
 use Rattle.std.proofs.Common.{◌≡◌, ◌+◌, List, [], ◌∷◌, ◌++◌, refl, sym, ap, ◌∙◌, add_assoc, arith}
 use Rattle.qm_denot.specs.declared.Letter.{Letter}
 use Rattle.qm_denot.specs.Wires.{Wires}

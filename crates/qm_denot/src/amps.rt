@@ -1,3 +1,4 @@
+//! What every store of amplitudes does: the letters of circuits, and questions about branches.
 ghost use Rattle.std.specs.Prelude.{◌≡◌, ◌≢◌, ◌+◌, ◌<◌, ◌↔◌, true, false, List, [], ◌∷◌, ◌++◌, length, All, Contains, OnOk, OnErr, IsErr};
 ghost use Rattle.qm_zomega.specs.Zw.{value_of};
 ghost use Rattle.qm_zomega.specs.Numbers.{zero_number};
@@ -38,7 +39,8 @@ pub trait Amps: Drop {
         requires able { able }
         requires absent { ¬ (Contains (store self.old).live w) }
         requires room { length (store self.old).live < (store self.old).capacity }
-        ensures stands { (c : Circuit) → StandsFor (store self.old) c → StandsFor (store self.new) c }
+        ensures stands { (c : Circuit) → StandsFor (store self.old) c
+            → StandsFor (store self.new) c }
         ensures live { (store self.new).live ≡ (store self.old).live ++ w ∷ [] }
         ensures capacity { (store self.new).capacity ≡ (store self.old).capacity };
 
@@ -49,8 +51,11 @@ pub trait Amps: Drop {
     fn apply(&mut self, letter: Letter) -> Result<(), Overflow>
         requires able { able }
         requires may { MayApply letter (store self.old) }
-        ensures stands { OnOk result ((c : Circuit) → StandsFor (store self.old) c → StandsFor (store self.new) (c ++ letter ∷ [])) }
-        ensures live { OnOk result ((store self.new).live ≡ live_after letter (store self.old).live) }
+        ensures stands { OnOk result
+            ((c : Circuit) → StandsFor (store self.old) c
+            → StandsFor (store self.new) (c ++ letter ∷ [])) }
+        ensures live { OnOk result ((store self.new).live
+            ≡ live_after letter (store self.old).live) }
         ensures capacity { (store self.new).capacity ≡ (store self.old).capacity }
         ensures overflow { IsErr result ↔ Overflows letter (store self.old) }
         ensures unchanged { OnErr result (store self.new ≡ store self.old) };
@@ -59,23 +64,29 @@ pub trait Amps: Drop {
     fn can_be(&self, w: Wire, m: bool) -> bool
         requires able { able }
         requires live { Contains (store self.now).live w }
-        ensures yes { result ≡ true → (x : Wires) × (has x w ≡ m) × ((store self.now).value x ≢ zero_number) }
-        ensures no { result ≡ false → (x : Wires) → has x w ≡ m → (store self.now).value x ≡ zero_number };
+        ensures yes { result ≡ true
+            → (x : Wires) × (has x w ≡ m) × ((store self.now).value x ≢ zero_number) }
+        ensures no { result ≡ false → (x : Wires) → has x w ≡ m
+            → (store self.now).value x ≡ zero_number };
 
     /// Whether every non-zero branch has `w` zero.
     fn always_zero(&self, w: Wire) -> bool
         requires able { able }
         requires live { Contains (store self.now).live w }
-        ensures yes { result ≡ true → (x : Wires) → has x w ≡ true → (store self.now).value x ≡ zero_number }
-        ensures no { result ≡ false → (x : Wires) × (has x w ≡ true) × ((store self.now).value x ≢ zero_number) };
+        ensures yes { result ≡ true → (x : Wires) → has x w ≡ true
+            → (store self.now).value x ≡ zero_number }
+        ensures no { result ≡ false
+            → (x : Wires) × (has x w ≡ true) × ((store self.now).value x ≢ zero_number) };
 
     /// Whether every non-zero branch has `w` equal to `v`.
     fn always_equal(&self, w: Wire, v: Wire) -> bool
         requires able { able }
         requires live { Contains (store self.now).live w × Contains (store self.now).live v }
         requires distinct { w ≢ v }
-        ensures yes { result ≡ true → (x : Wires) → has x w ≢ has x v → (store self.now).value x ≡ zero_number }
-        ensures no { result ≡ false → (x : Wires) × (has x w ≢ has x v) × ((store self.now).value x ≢ zero_number) };
+        ensures yes { result ≡ true → (x : Wires) → has x w ≢ has x v
+            → (store self.now).value x ≡ zero_number }
+        ensures no { result ≡ false
+            → (x : Wires) × (has x w ≢ has x v) × ((store self.now).value x ≢ zero_number) };
 
     /// The exponent of the reduced form.
     fn exponent(&self) -> u64

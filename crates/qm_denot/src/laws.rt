@@ -13,5 +13,6 @@ pub fn reduced_form_law()
 
 /// The amplitude of a circuit with one more letter is given by that letter's line of `with_letter`.
 pub fn last_letter_law()
-    ensures { (c : Circuit) (l : Letter) (x : Wires) → amp (c ++ l ∷ []) x ≡ with_letter l (amp c) x }
+    ensures { (c : Circuit) (l : Letter) (x : Wires)
+        → amp (c ++ l ∷ []) x ≡ with_letter l (amp c) x }
 {}

@@ -68,7 +68,8 @@ impl PlainAmps {
 
     fn phase(&mut self, k: u8, w: Wire)
         requires may { MayApply (Letter.Phase k w) (⟦<PlainAmps as Amps>⟧.store self.old) }
-        ensures { Does (Letter.Phase k w) (⟦<PlainAmps as Amps>⟧.store self.old) (⟦<PlainAmps as Amps>⟧.store self.new) }
+        ensures { Does (Letter.Phase k w) (⟦<PlainAmps as Amps>⟧.store self.old)
+            (⟦<PlainAmps as Amps>⟧.store self.new) }
     {
         let place = place_of(&self.live, w);
         rewrite(
@@ -80,7 +81,8 @@ impl PlainAmps {
 
     fn flip(&mut self, w: Wire)
         requires may { MayApply (Letter.Flip w) (⟦<PlainAmps as Amps>⟧.store self.old) }
-        ensures { Does (Letter.Flip w) (⟦<PlainAmps as Amps>⟧.store self.old) (⟦<PlainAmps as Amps>⟧.store self.new) }
+        ensures { Does (Letter.Flip w) (⟦<PlainAmps as Amps>⟧.store self.old)
+            (⟦<PlainAmps as Amps>⟧.store self.new) }
     {
         let place = place_of(&self.live, w);
         rewrite(Rule::Flip { place }, &mut self.numerators, &mut self.spare);
@@ -88,7 +90,8 @@ impl PlainAmps {
 
     fn cx(&mut self, c: Wire, t: Wire)
         requires may { MayApply (Letter.Cx c t) (⟦<PlainAmps as Amps>⟧.store self.old) }
-        ensures { Does (Letter.Cx c t) (⟦<PlainAmps as Amps>⟧.store self.old) (⟦<PlainAmps as Amps>⟧.store self.new) }
+        ensures { Does (Letter.Cx c t) (⟦<PlainAmps as Amps>⟧.store self.old)
+            (⟦<PlainAmps as Amps>⟧.store self.new) }
     {
         let control = place_of(&self.live, c);
         let target = place_of(&self.live, t);
@@ -101,7 +104,8 @@ impl PlainAmps {
 
     fn cz(&mut self, c: Wire, t: Wire)
         requires may { MayApply (Letter.Cz c t) (⟦<PlainAmps as Amps>⟧.store self.old) }
-        ensures { Does (Letter.Cz c t) (⟦<PlainAmps as Amps>⟧.store self.old) (⟦<PlainAmps as Amps>⟧.store self.new) }
+        ensures { Does (Letter.Cz c t) (⟦<PlainAmps as Amps>⟧.store self.old)
+            (⟦<PlainAmps as Amps>⟧.store self.new) }
     {
         let one = place_of(&self.live, c);
         let other = place_of(&self.live, t);
@@ -114,7 +118,8 @@ impl PlainAmps {
 
     fn keep(&mut self, w: Wire, m: bool)
         requires may { MayApply (Letter.Keep w m) (⟦<PlainAmps as Amps>⟧.store self.old) }
-        ensures { Does (Letter.Keep w m) (⟦<PlainAmps as Amps>⟧.store self.old) (⟦<PlainAmps as Amps>⟧.store self.new) }
+        ensures { Does (Letter.Keep w m) (⟦<PlainAmps as Amps>⟧.store self.old)
+            (⟦<PlainAmps as Amps>⟧.store self.new) }
     {
         let place = place_of(&self.live, w);
         rewrite(
@@ -127,9 +132,12 @@ impl PlainAmps {
 
     fn had(&mut self, w: Wire) -> Result<(), Overflow>
         requires may { MayApply (Letter.Had w) (⟦<PlainAmps as Amps>⟧.store self.old) }
-        ensures does { OnOk result (Does (Letter.Had w) (⟦<PlainAmps as Amps>⟧.store self.old) (⟦<PlainAmps as Amps>⟧.store self.new)) }
-        ensures overflow { IsErr result ↔ Overflows (Letter.Had w) (⟦<PlainAmps as Amps>⟧.store self.old) }
-        ensures unchanged { OnErr result (⟦<PlainAmps as Amps>⟧.store self.new ≡ ⟦<PlainAmps as Amps>⟧.store self.old) }
+        ensures does { OnOk result (Does (Letter.Had w) (⟦<PlainAmps as Amps>⟧.store self.old)
+            (⟦<PlainAmps as Amps>⟧.store self.new)) }
+        ensures overflow { IsErr result
+            ↔ Overflows (Letter.Had w) (⟦<PlainAmps as Amps>⟧.store self.old) }
+        ensures unchanged { OnErr result
+            (⟦<PlainAmps as Amps>⟧.store self.new ≡ ⟦<PlainAmps as Amps>⟧.store self.old) }
     {
         let place = place_of(&self.live, w);
         fill_had(&self.numerators, &mut self.spare, place)?;
@@ -140,7 +148,8 @@ impl PlainAmps {
 
     fn pair(&mut self, a: Wire, b: Wire)
         requires may { MayApply (Letter.Pair a b) (⟦<PlainAmps as Amps>⟧.store self.old) }
-        ensures { Does (Letter.Pair a b) (⟦<PlainAmps as Amps>⟧.store self.old) (⟦<PlainAmps as Amps>⟧.store self.new) }
+        ensures { Does (Letter.Pair a b) (⟦<PlainAmps as Amps>⟧.store self.old)
+            (⟦<PlainAmps as Amps>⟧.store self.new) }
     {
         let count = self.live.len() as u32;
         rewrite(Rule::Pair { count }, &mut self.numerators, &mut self.spare);
@@ -151,7 +160,8 @@ impl PlainAmps {
 
     fn take(&mut self, w: Wire, m: bool)
         requires may { MayApply (Letter.Take w m) (⟦<PlainAmps as Amps>⟧.store self.old) }
-        ensures { Does (Letter.Take w m) (⟦<PlainAmps as Amps>⟧.store self.old) (⟦<PlainAmps as Amps>⟧.store self.new) }
+        ensures { Does (Letter.Take w m) (⟦<PlainAmps as Amps>⟧.store self.old)
+            (⟦<PlainAmps as Amps>⟧.store self.new) }
     {
         let place = place_of(&self.live, w);
         rewrite(
@@ -165,7 +175,8 @@ impl PlainAmps {
 
     fn rename(&mut self, a: Wire, b: Wire)
         requires may { MayApply (Letter.Rename a b) (⟦<PlainAmps as Amps>⟧.store self.old) }
-        ensures { Does (Letter.Rename a b) (⟦<PlainAmps as Amps>⟧.store self.old) (⟦<PlainAmps as Amps>⟧.store self.new) }
+        ensures { Does (Letter.Rename a b) (⟦<PlainAmps as Amps>⟧.store self.old)
+            (⟦<PlainAmps as Amps>⟧.store self.new) }
     {
         let place = place_of(&self.live, a);
         self.live[place as usize] = b;

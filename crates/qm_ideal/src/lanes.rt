@@ -46,7 +46,8 @@ impl<T: Copy + Drop> Lanes<T> {
 
     /// Puts something at the lane's end. `AllocError` comes from the allocator alone.
     pub(crate) fn put(&mut self, alloc: Global, lane: Lane, load: T) -> Result<(), AllocError>
-        ensures { OnOk result (lanes_of self.new ≡ with_lane (lanes_of self.old) lane (lanes_of self.old lane ++ load ∷ [])) }
+        ensures { OnOk result (lanes_of self.new
+            ≡ with_lane (lanes_of self.old) lane (lanes_of self.old lane ++ load ∷ [])) }
     {
         if let Some(queue) = self.queues.get_mut(&lane) {
             queue.push_back(load)?;
@@ -60,7 +61,8 @@ impl<T: Copy + Drop> Lanes<T> {
 
     /// Takes the lane's front away, where there is one.
     pub(crate) fn take(&mut self, lane: Lane)
-        ensures { lanes_of self.new ≡ with_lane (lanes_of self.old) lane (drop 1 (lanes_of self.old lane)) }
+        ensures { lanes_of self.new
+            ≡ with_lane (lanes_of self.old) lane (drop 1 (lanes_of self.old lane)) }
     {
         if let Some(queue) = self.queues.get_mut(&lane) {
             queue.pop_front();
@@ -69,7 +71,8 @@ impl<T: Copy + Drop> Lanes<T> {
 
     /// Puts something in the place of the lane's last, where there is one.
     pub(crate) fn set_last(&mut self, lane: Lane, load: T)
-        ensures { lanes_of self.new ≡ with_lane (lanes_of self.old) lane (last_set (lanes_of self.old lane) load) }
+        ensures { lanes_of self.new
+            ≡ with_lane (lanes_of self.old) lane (last_set (lanes_of self.old lane) load) }
     {
         if let Some(queue) = self.queues.get_mut(&lane) {
             if let Some(last) = queue.back_mut() {

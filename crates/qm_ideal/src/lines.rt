@@ -116,7 +116,10 @@ fn first(line: Line, count: usize) -> Lines
 
 /// The lines of a send that begins with a pair, for so many events.
 fn sending(lane: Lane, count: usize) -> Lines
-    ensures lines { result.lines ≡ record { rule = Rule.PairRoom lane; act = Some (Move.Puts lane false) } ∷ Line.STILL ∷ record { rule = Rule.Always; act = Some (Move.Tells lane) } ∷ Line.STILL ∷ Line.STILL ∷ [] }
+    ensures lines { result.lines
+        ≡ record { rule = Rule.PairRoom lane; act = Some (Move.Puts lane false) } ∷ Line.STILL
+        ∷ record { rule = Rule.Always; act = Some (Move.Tells lane) } ∷ Line.STILL ∷ Line.STILL
+        ∷ [] }
     ensures count { result.count ≡ count }
 {
     let s = Line::STILL;

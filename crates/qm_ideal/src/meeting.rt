@@ -35,7 +35,8 @@ struct Meeting {
 impl Meeting {
     /// Each rank before its first event, and empty lanes.
     fn start(alloc: Global, input: &Input) -> Result<Meeting, AllocError>
-        ensures start { IfOk result (λ m. stand_in m ≡ record { at = λ r. 0; stage = λ r. 0; lanes = λ a. [] }) }
+        ensures start { IfOk result (λ m. stand_in m
+            ≡ record { at = λ r. 0; stage = λ r. 0; lanes = λ a. [] }) }
         ensures ranks { IfOk result (λ m. length m.places.items ≡ length input.now.ranks) }
         ensures in_range { OnOk result (IsInRange input.now) }
     {
@@ -141,7 +142,8 @@ impl Meeting {
 
     /// Does what an event does to a lane. `AllocError` comes from the allocator alone.
     fn do_move(&mut self, alloc: Global, act: Option<Move>) -> Result<(), AllocError>
-        ensures lanes { OnOk result (lanes_of self.new.lanes ≡ fold lanes_after (lanes_of self.old.lanes) (map move_meant (option_to_list act))) }
+        ensures lanes { OnOk result (lanes_of self.new.lanes
+            ≡ fold lanes_after (lanes_of self.old.lanes) (map move_meant (option_to_list act))) }
         ensures places { OnOk result (self.new.places ≡ self.old.places) }
     {
         match act {
@@ -158,8 +160,14 @@ impl Meeting {
         requires known { rank < length self.old.places.items }
         requires at { (stand_in self.old).at rank + 1 < 2 ^ 32 }
         requires stage { (stand_in self.old).stage rank + 1 < 2 ^ 32 }
-        ensures at { (stand_in self.new).at ≡ with_at (stand_in self.old).at rank (if nat_lt ((stand_in self.old).stage rank + 1) events then (stand_in self.old).at rank else (stand_in self.old).at rank + 1) }
-        ensures stage { (stand_in self.new).stage ≡ with_at (stand_in self.old).stage rank (if nat_lt ((stand_in self.old).stage rank + 1) events then (stand_in self.old).stage rank + 1 else 0) }
+        ensures at { (stand_in self.new).at
+            ≡ with_at (stand_in self.old).at rank
+            (if nat_lt ((stand_in self.old).stage rank + 1) events then (stand_in self.old).at rank
+            else (stand_in self.old).at rank + 1) }
+        ensures stage { (stand_in self.new).stage
+            ≡ with_at (stand_in self.old).stage rank
+            (if nat_lt ((stand_in self.old).stage rank + 1) events
+            then (stand_in self.old).stage rank + 1 else 0) }
         ensures lanes { self.new.lanes ≡ self.old.lanes }
         ensures ranks { length self.new.places.items ≡ length self.old.places.items }
     {
@@ -178,7 +186,8 @@ impl Meeting {
         requires known { rank < length input.now.ranks }
         requires at { (stand_in self.old).at rank + 1 < 2 ^ 32 }
         requires stage { (stand_in self.old).stage rank + 1 < 2 ^ 32 }
-        ensures did { OnOk result (stand_in self.new ≡ go (instr_at input.now) (stand_in self.old) rank) }
+        ensures did { OnOk result (stand_in self.new
+            ≡ go (instr_at input.now) (stand_in self.old) rank) }
         ensures ranks { OnOk result (length self.new.places.items ≡ length self.old.places.items) }
     {
         let Some(line) = self.line(input, rank) else {
@@ -193,8 +202,11 @@ impl Meeting {
     /// Whether no rank has an event left.
     fn all_ended(&self, input: &Input) -> bool
         requires { length self.now.places.items ≡ length input.now.ranks }
-        ensures yes { result ≡ true → (r : ℕ) → r < length input.now.ranks → is_some (shape_next (instr_at input.now) (stand_in self.now) r) ≡ false }
-        ensures no { result ≡ false → (r : ℕ) × (r < length input.now.ranks) × (is_some (shape_next (instr_at input.now) (stand_in self.now) r) ≡ true) }
+        ensures yes { result ≡ true → (r : ℕ) → r < length input.now.ranks
+            → is_some (shape_next (instr_at input.now) (stand_in self.now) r) ≡ false }
+        ensures no { result ≡ false
+            → (r : ℕ) × (r < length input.now.ranks)
+            × (is_some (shape_next (instr_at input.now) (stand_in self.now) r) ≡ true) }
     {
         for rank in 0..input.ranks() {
             if self.line(input, rank).is_some() {

@@ -69,7 +69,8 @@ fn ranks_left(input: &Input, ranks: u16, tables: &Tables) -> u16
     requires all { ranks ≡ length input.now.ranks }
     requires same { length tables.now.ranks.items ≡ length input.now.ranks }
     requires few { ranks ≤ 16 }
-    ensures { result ≡ left_from input.now (tables_of input.now tables.now) 0 (length input.now.ranks) }
+    ensures { result ≡ left_from input.now (tables_of input.now tables.now) 0
+        (length input.now.ranks) }
 {
     let mut left = 0;
     for k in 0..ranks {
@@ -91,7 +92,8 @@ fn wires_in(alloc: Global, ranks: u16, tables: &Tables) -> Result<Vec<Wire>, All
 
 /// Appends the wires in the slots of a rank.
 fn push_wires(wires: &mut Vec<Wire>, tables: &Tables, rank: u16) -> Result<(), AllocError>
-    ensures { OnOk result (wires.new.items ≡ wires.old.items ++ wires_below (slots_at tables.now.ranks.items rank) 16) }
+    ensures { OnOk result (wires.new.items
+        ≡ wires.old.items ++ wires_below (slots_at tables.now.ranks.items rank) 16) }
 {
     for q in 0..16 {
         if let Some(wire) = tables.slot(rank, q) {

@@ -115,9 +115,13 @@ impl Run {
         requires known { rank < length input.now.ranks }
         requires made { ((state_of input.now self.old).tables.parts rank).made + 3 < 2 ^ 32 }
         requires at { ((state_of input.now self.old).tables.parts rank).at + 1 < 2 ^ 32 }
-        requires small { (i : Instr) → ideal_current input.now (state_of input.now self.old).tables rank ≡ Some i → AllSmall (step_of input.now (state_of input.now self.old).tables rank i).acts }
-        ensures did { OnOk result (state_of input.now self.new ≡ ideal_next input.now (state_of input.now self.old) rank) }
-        ensures ranks { OnOk result (length self.new.tables.ranks.items ≡ length self.old.tables.ranks.items) }
+        requires small { (i : Instr)
+            → ideal_current input.now (state_of input.now self.old).tables rank ≡ Some i
+            → AllSmall (step_of input.now (state_of input.now self.old).tables rank i).acts }
+        ensures did { OnOk result (state_of input.now self.new
+            ≡ ideal_next input.now (state_of input.now self.old) rank) }
+        ensures ranks { OnOk result (length self.new.tables.ranks.items
+            ≡ length self.old.tables.ranks.items) }
     {
         if let Some(instr) = self.tables.current(input, rank) {
             let step = step_of(input, &self.tables, rank, instr);

@@ -158,7 +158,11 @@ fn lettered(letter: Letter, acts: Few<Act>) -> Step
 
 /// A step that takes the front wire of a lane into a slot.
 fn taking(input: &Input, tables: &Tables, lane: Lane, q: u8) -> Step
-    ensures { let w = wire_carried (load_at (tables_of input.now tables.now) lane) in result ≡ record { letters = Few.Empty; acts = Few.Two (Act.Takes lane) (Act.SlotSet q (Some w)) } }
+    ensures { let w = wire_carried (load_at (tables_of input.now tables.now) lane) in
+        result ≡ record {
+          letters = Few.Empty;
+          acts = Few.Two (Act.Takes lane) (Act.SlotSet q (Some w));
+        } }
 {
     let wire = Some(tables.front_wire(input, lane));
     silent(Few::Two(Act::Takes { lane }, Act::SlotSet { q, wire }))
@@ -168,8 +172,12 @@ fn taking(input: &Input, tables: &Tables, lane: Lane, q: u8) -> Step
 fn local_step(input: &Input, tables: &Tables, rank: u16, instr: Instr) -> Step
     requires same { length tables.now.ranks.items ≡ length input.now.ranks }
     requires known { rank < length input.now.ranks }
-    ensures letters { is_message instr ≡ false → list_of result.letters ≡ (step_of input.now (tables_of input.now tables.now) rank instr).letters }
-    ensures acts { is_message instr ≡ false → map act_meant (list_of result.acts) ≡ (step_of input.now (tables_of input.now tables.now) rank instr).acts }
+    ensures letters { is_message instr ≡ false
+        → list_of result.letters
+        ≡ (step_of input.now (tables_of input.now tables.now) rank instr).letters }
+    ensures acts { is_message instr ≡ false
+        → map act_meant (list_of result.acts)
+        ≡ (step_of input.now (tables_of input.now tables.now) rank instr).acts }
 {
     match instr {
         Instr::Alloc { q } => {
@@ -210,8 +218,12 @@ fn local_step(input: &Input, tables: &Tables, rank: u16, instr: Instr) -> Step
 fn message_step(input: &Input, tables: &Tables, rank: u16, instr: Instr) -> Step
     requires same { length tables.now.ranks.items ≡ length input.now.ranks }
     requires known { rank < length input.now.ranks }
-    ensures letters { is_message instr ≡ true → list_of result.letters ≡ (step_of input.now (tables_of input.now tables.now) rank instr).letters }
-    ensures acts { is_message instr ≡ true → map act_meant (list_of result.acts) ≡ (step_of input.now (tables_of input.now tables.now) rank instr).acts }
+    ensures letters { is_message instr ≡ true
+        → list_of result.letters
+        ≡ (step_of input.now (tables_of input.now tables.now) rank instr).letters }
+    ensures acts { is_message instr ≡ true
+        → map act_meant (list_of result.acts)
+        ≡ (step_of input.now (tables_of input.now tables.now) rank instr).acts }
 {
     match instr {
         Instr::SendBit { b, to, tag } => {
@@ -302,8 +314,10 @@ fn is_message(instr: Instr) -> bool
 pub(crate) fn step_of(input: &Input, tables: &Tables, rank: u16, instr: Instr) -> Step
     requires same { length tables.now.ranks.items ≡ length input.now.ranks }
     requires known { rank < length input.now.ranks }
-    ensures letters { list_of result.letters ≡ (step_of input.now (tables_of input.now tables.now) rank instr).letters }
-    ensures acts { map act_meant (list_of result.acts) ≡ (step_of input.now (tables_of input.now tables.now) rank instr).acts }
+    ensures letters { list_of result.letters
+        ≡ (step_of input.now (tables_of input.now tables.now) rank instr).letters }
+    ensures acts { map act_meant (list_of result.acts)
+        ≡ (step_of input.now (tables_of input.now tables.now) rank instr).acts }
 {
     if is_message(instr) {
         message_step(input, tables, rank, instr)

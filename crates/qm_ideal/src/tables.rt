@@ -89,7 +89,8 @@ fn used_after(own: &[bool], used: usize) -> usize
 impl Tables {
     /// The ranks before their first instruction, and empty lanes. `AllocError` comes from the allocator alone.
     pub(crate) fn start(alloc: Global, input: &Input) -> Result<Tables, AllocError>
-        ensures start { IfOk result (λ t. tables_of input.now t ≡ (ideal_at_start input.now).tables) }
+        ensures start { IfOk result (λ t. tables_of input.now t
+            ≡ (ideal_at_start input.now).tables) }
         ensures ranks { IfOk result (λ t. length t.ranks.items ≡ length input.now.ranks) }
     {
         let mut ranks = Vec::with_capacity(alloc, usize::from(input.ranks()))?;
@@ -123,7 +124,8 @@ impl Tables {
 
     /// The wire in a slot of the ranks at the end.
     pub(crate) fn end_slot(&self, rank: u16, q: u8) -> Option<Wire>
-        ensures { result ≡ slice_index_or (slice_index_or (ends_of self.now) rank no_rank).slots q None }
+        ensures { result ≡ slice_index_or (slice_index_or (ends_of self.now) rank no_rank).slots q
+            None }
     {
         self.slot(rank, q)
     }
@@ -227,7 +229,8 @@ impl Tables {
     fn count(&mut self, input: &Input, rank: u16)
         requires known { rank < length self.old.ranks.items }
         requires few { ((tables_of input.now self.old).parts rank).made + 1 < 2 ^ 32 }
-        ensures did { tables_of input.now self.new ≡ ideal_done rank (tables_of input.now self.old) Counts }
+        ensures did { tables_of input.now self.new
+            ≡ ideal_done rank (tables_of input.now self.old) Counts }
         ensures ranks { length self.new.ranks.items ≡ length self.old.ranks.items }
     {
         let place = &mut self.ranks[usize::from(rank)];
@@ -238,7 +241,8 @@ impl Tables {
     fn set_slot(&mut self, input: &Input, rank: u16, q: u8, wire: Option<Wire>)
         requires known { rank < length self.old.ranks.items }
         requires slot { q < 16 }
-        ensures did { tables_of input.now self.new ≡ ideal_done rank (tables_of input.now self.old) (SlotSet q wire) }
+        ensures did { tables_of input.now self.new
+            ≡ ideal_done rank (tables_of input.now self.old) (SlotSet q wire) }
         ensures ranks { length self.new.ranks.items ≡ length self.old.ranks.items }
     {
         let place = &mut self.ranks[usize::from(rank)];
@@ -249,7 +253,8 @@ impl Tables {
     fn use_own(&mut self, input: &Input, rank: u16)
         requires same { length self.old.ranks.items ≡ length input.now.ranks }
         requires known { rank < length input.now.ranks }
-        ensures did { tables_of input.now self.new ≡ ideal_done rank (tables_of input.now self.old) OwnUsed }
+        ensures did { tables_of input.now self.new
+            ≡ ideal_done rank (tables_of input.now self.old) OwnUsed }
         ensures ranks { length self.new.ranks.items ≡ length self.old.ranks.items }
     {
         let own = input.own(rank);
@@ -261,7 +266,8 @@ impl Tables {
     fn set_bit(&mut self, input: &Input, rank: u16, b: u8, v: bool)
         requires known { rank < length self.old.ranks.items }
         requires bit { b < 32 }
-        ensures did { tables_of input.now self.new ≡ ideal_done rank (tables_of input.now self.old) (BitSet b v) }
+        ensures did { tables_of input.now self.new
+            ≡ ideal_done rank (tables_of input.now self.old) (BitSet b v) }
         ensures ranks { length self.new.ranks.items ≡ length self.old.ranks.items }
     {
         let place = &mut self.ranks[usize::from(rank)];
@@ -277,7 +283,8 @@ impl Tables {
         lane: Lane,
         load: Load,
     ) -> Result<(), AllocError>
-        ensures did { OnOk result (tables_of input.now self.new ≡ ideal_done rank (tables_of input.now self.old) (Puts lane (load_meant load))) }
+        ensures did { OnOk result (tables_of input.now self.new
+            ≡ ideal_done rank (tables_of input.now self.old) (Puts lane (load_meant load))) }
         ensures ranks { length self.new.ranks.items ≡ length self.old.ranks.items }
     {
         self.lanes.put(alloc, lane, load)?;
@@ -286,7 +293,8 @@ impl Tables {
 
     /// Takes a lane's front away.
     fn take(&mut self, input: &Input, rank: u16, lane: Lane)
-        ensures did { tables_of input.now self.new ≡ ideal_done rank (tables_of input.now self.old) (Takes lane) }
+        ensures did { tables_of input.now self.new
+            ≡ ideal_done rank (tables_of input.now self.old) (Takes lane) }
         ensures ranks { length self.new.ranks.items ≡ length self.old.ranks.items }
     {
         self.lanes.take(lane);
@@ -296,7 +304,8 @@ impl Tables {
     pub(crate) fn move_on(&mut self, input: &Input, rank: u16)
         requires known { rank < length self.old.ranks.items }
         requires few { ((tables_of input.now self.old).parts rank).at + 1 < 2 ^ 32 }
-        ensures did { tables_of input.now self.new ≡ ideal_moved_on (tables_of input.now self.old) rank }
+        ensures did { tables_of input.now self.new
+            ≡ ideal_moved_on (tables_of input.now self.old) rank }
         ensures ranks { length self.new.ranks.items ≡ length self.old.ranks.items }
     {
         let place = &mut self.ranks[usize::from(rank)];
@@ -315,7 +324,8 @@ impl Tables {
         requires known { rank < length input.now.ranks }
         requires few { ((tables_of input.now self.old).parts rank).made + 1 < 2 ^ 32 }
         requires small { IsSmall (act_meant act) }
-        ensures did { OnOk result (tables_of input.now self.new ≡ ideal_done rank (tables_of input.now self.old) (act_meant act)) }
+        ensures did { OnOk result (tables_of input.now self.new
+            ≡ ideal_done rank (tables_of input.now self.old) (act_meant act)) }
         ensures ranks { OnOk result (length self.new.ranks.items ≡ length self.old.ranks.items) }
     {
         match act {
@@ -341,7 +351,9 @@ impl Tables {
         requires known { rank < length input.now.ranks }
         requires few { ((tables_of input.now self.old).parts rank).made + 3 < 2 ^ 32 }
         requires small { AllSmall (map act_meant (list_of acts)) }
-        ensures did { OnOk result (tables_of input.now self.new ≡ fold (ideal_done rank) (tables_of input.now self.old) (map act_meant (list_of acts))) }
+        ensures did { OnOk result (tables_of input.now self.new
+            ≡ fold (ideal_done rank) (tables_of input.now self.old)
+            (map act_meant (list_of acts))) }
         ensures ranks { OnOk result (length self.new.ranks.items ≡ length self.old.ranks.items) }
     {
         match acts {

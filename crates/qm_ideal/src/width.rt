@@ -24,7 +24,8 @@ fn make_fresh(live: &mut Vec<Wire>, named: &BTreeSet<Wire>, w: Wire) -> Result<(
 
 /// Makes the wires fresh that a letter needs and that none before it has named.
 fn prepare(live: &mut Vec<Wire>, named: &BTreeSet<Wire>, letter: Letter) -> Result<(), AllocError>
-    ensures { OnOk result (live.new.items ≡ live.old.items ++ filter (lacked named.now) (made_fresh letter)) }
+    ensures { OnOk result (live.new.items
+        ≡ live.old.items ++ filter (lacked named.now) (made_fresh letter)) }
 {
     match letter {
         Letter::Phase { w, .. }
@@ -76,7 +77,8 @@ fn pass(live: &mut Vec<Wire>, letter: Letter) -> Result<(), AllocError>
 
 /// Notes that a wire is named.
 fn note(named: &mut BTreeSet<Wire>, w: Wire) -> Result<(), AllocError>
-    ensures { OnOk result ((v : Wire) → lacked named.new v ≡ (not (is_wire w v) && lacked named.old v)) }
+    ensures { OnOk result ((v : Wire)
+        → lacked named.new v ≡ (not (is_wire w v) && lacked named.old v)) }
 {
     named.insert(w)?;
     Ok(())
@@ -84,7 +86,8 @@ fn note(named: &mut BTreeSet<Wire>, w: Wire) -> Result<(), AllocError>
 
 /// Notes the wires that a letter names.
 fn note_all(named: &mut BTreeSet<Wire>, letter: Letter) -> Result<(), AllocError>
-    ensures { OnOk result ((v : Wire) → lacked named.new v ≡ also_lacked (lacked named.old) (operands letter) v) }
+    ensures { OnOk result ((v : Wire)
+        → lacked named.new v ≡ also_lacked (lacked named.old) (operands letter) v) }
 {
     match letter {
         Letter::Phase { w, .. }

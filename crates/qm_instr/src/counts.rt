@@ -1,3 +1,4 @@
+//! How many events, protocol measurements and own measurements an instruction has.
 ghost use Rattle.std.specs.Prelude.{◌≡◌};
 ghost use Rattle.qm_instr.specs.Counts.{events_of, protocol_of, own_of};
 

@@ -1,3 +1,4 @@
+//! The lanes on which instructions send and receive.
 ghost use Rattle.std.specs.Prelude.{◌≡◌};
 ghost use Rattle.qm_instr.specs.Lanes.{lane_sent, lane_received};
 

@@ -1,3 +1,4 @@
+//! The programs of all ranks, built by appending.
 ghost use Rattle.std.specs.Prelude.{◌≡◌, ◌+◌, ◌<◌, ◌≤◌, [], length, slice_get, IfOk, OnOk, OnErr};
 ghost use Rattle.qm_instr.specs.Operands.{HasOperands};
 ghost use Rattle.qm_instr.specs.Programs.{IsInRange, idle, rank_of, with_sizes, with_instruction, with_own, with_protocol, instruction_total};

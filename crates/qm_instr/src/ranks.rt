@@ -1,3 +1,4 @@
+//! The program of one rank.
 ghost use Rattle.std.specs.Prelude.{◌≡◌, [], ◌∷◌, ◌++◌, OnOk, OnErr};
 ghost use Rattle.qm_instr.specs.Programs.{idle_rank};
 
@@ -53,7 +54,8 @@ impl Rank {
 
     /// Appends an instruction.
     pub(crate) fn push(&mut self, i: Instr) -> Result<(), AllocError>
-        ensures ok { OnOk result (self.new ≡ record self.old { instructions = self.old.instructions ++ i ∷ [] }) }
+        ensures ok { OnOk result (self.new
+            ≡ record self.old { instructions = self.old.instructions ++ i ∷ [] }) }
         ensures err { OnErr result (self.new ≡ self.old) }
     {
         self.instructions.push(i)?;
@@ -71,7 +73,8 @@ impl Rank {
 
     /// Appends an outcome to the protocol tape.
     pub(crate) fn push_protocol(&mut self, m: bool) -> Result<(), AllocError>
-        ensures ok { OnOk result (self.new ≡ record self.old { protocol = self.old.protocol ++ m ∷ [] }) }
+        ensures ok { OnOk result (self.new
+            ≡ record self.old { protocol = self.old.protocol ++ m ∷ [] }) }
         ensures err { OnErr result (self.new ≡ self.old) }
     {
         self.protocol.push(m)?;

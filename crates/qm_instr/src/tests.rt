@@ -1,3 +1,4 @@
+//! Counts and lanes of each instruction, and programs at their limits.
 use crate::{
     Gate, Input, Instr, Kind, Lane, OneGate, event_count, own_count, protocol_count, receive_lane,
     send_lane,

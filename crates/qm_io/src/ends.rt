@@ -1,3 +1,4 @@
+//! The two ends of a program: where its bytes come from, and where they go.
 ghost use Rattle.std.specs.Prelude.{◌≡◌, ◌<◌, ◌≤◌, [], length, take, IfOk, OnErr};
 ghost use Rattle.qm_io.specs.Ends.{one_more, Rose, SinkView, SourceView, Took, Broke, Puts, Gave, Withheld, IsSpent};
 

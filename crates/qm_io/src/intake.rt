@@ -1,3 +1,4 @@
+//! Reading a whole text from a source, up to a limit.
 ghost use Rattle.qm_io.specs.Intake.{Takes};
 
 use crate::ends::Source;

@@ -1,3 +1,4 @@
+//! A sink into memory that fails where it is told to.
 ghost use Rattle.std.specs.Prelude.{◌≡◌, ◌<◌, ◌≤◌, ◌↔◌, ◌⊎◌, [], length, take, IfOk, OnOk, OnErr, IsErr, Some};
 ghost use Rattle.qm_io.specs.Ends.{Broke, Puts};
 ghost use Rattle.qm_io.specs.MemSink.{unused, view_of, FailsNext, IsFull, next_count, HasTaken, HasFailed};

@@ -1,3 +1,4 @@
+//! Writing all bytes of a piece to a sink.
 ghost use Rattle.qm_io.specs.Ends.{Puts};
 
 use crate::ends::{Failed, Sink};

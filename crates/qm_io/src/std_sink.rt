@@ -1,3 +1,4 @@
+//! The edge to std's writers.
 ghost use Rattle.std.specs.Prelude.{◌≡◌, ◌<◌, ◌≤◌, [], length, take, IfOk, OnErr, None};
 ghost use Rattle.std.specs.Io.KnownBytes.{Keeps, WriteAppends};
 ghost use Rattle.qm_io.specs.Ends.{Took, Broke, Puts};

@@ -1,3 +1,4 @@
+//! The edge to std's readers.
 ghost use Rattle.std.specs.Prelude.{◌≡◌, ◌<◌, ◌≤◌, length, take, IfOk, OnErr, None};
 ghost use Rattle.std.specs.Io.KnownBytes.{ReadConsumes};
 ghost use Rattle.qm_io.specs.Ends.{Gave, Withheld, IsSpent};

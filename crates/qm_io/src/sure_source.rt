@@ -1,3 +1,4 @@
+//! A source in memory that never fails.
 ghost use Rattle.std.specs.Prelude.{◌≡◌, ◌<◌, ◌≤◌, length, take, min, IfOk, OnErr, IsOk, Some};
 ghost use Rattle.qm_io.specs.Ends.{Gave, IsSpent};
 ghost use Rattle.qm_io.specs.SureSource.{view_of, next_count};

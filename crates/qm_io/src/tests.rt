@@ -1,3 +1,4 @@
+//! Whole texts over ends that give little, take little, and fail.
 use crate::{
     MemSink, Sink, StdSink, StdSource, SureSource, TEXT_LIMIT, TextError, put_bytes, read_all,
 };

@@ -69,7 +69,8 @@ pub fn hadamard(lo: &mut [Zw], hi: &mut [Zw])
     requires fits { (i : ℕ) → i < length lo.old
         → FitsZw (number_at lo.old i ⊕ number_at hi.old i) × FitsZw (number_at lo.old i ⊖ number_at hi.old i) }
     ensures sums { IsListOf lo.new (length lo.old) (λ i. number_at lo.old i ⊕ number_at hi.old i) }
-    ensures differences { IsListOf hi.new (length lo.old) (λ i. number_at lo.old i ⊖ number_at hi.old i) }
+    ensures differences { IsListOf hi.new (length lo.old)
+        (λ i. number_at lo.old i ⊖ number_at hi.old i) }
 {
     numbers::mix(lo, hi);
 }
@@ -77,7 +78,8 @@ pub fn hadamard(lo: &mut [Zw], hi: &mut [Zw])
 /// Whether every number that `Had` on a place makes stays in the range.
 pub fn had_fits(v: &[Zw], place: u32) -> bool
     requires { HasPlace (length v.now) place }
-    ensures { IsTrue result ↔ ((i : ℕ) → i < length v.now → FitsZw (had_at place (number_at v.now) i)) }
+    ensures { IsTrue result ↔ ((i : ℕ) → i < length v.now
+        → FitsZw (had_at place (number_at v.now) i)) }
 {
     numbers::had_fits(v, place)
 }
@@ -95,7 +97,8 @@ pub fn had(v: &mut [Zw], place: u32)
 pub fn gather(v: &mut [Zw], place: u32, m: bool)
     requires { HasPlace (length v.old) place }
     ensures size { length v.new ≡ length v.old }
-    ensures taken { (i : ℕ) → i < length v.old / 2 → number_at v.new i ≡ take_at place m (number_at v.old) i }
+    ensures taken { (i : ℕ) → i < length v.old / 2
+        → number_at v.new i ≡ take_at place m (number_at v.old) i }
 {
     sizes::gather(v, place, m);
 }
@@ -104,7 +107,8 @@ pub fn gather(v: &mut [Zw], place: u32, m: bool)
 pub fn squeeze(v: &mut [Zw], place: u32, m: bool)
     requires { HasPlace (length v.old) place }
     ensures size { length v.new ≡ length v.old }
-    ensures taken { (i : ℕ) → i < length v.old / 2 → number_at v.new i ≡ take_at place m (number_at v.old) i }
+    ensures taken { (i : ℕ) → i < length v.old / 2
+        → number_at v.new i ≡ take_at place m (number_at v.old) i }
     ensures rest { (i : ℕ) → length v.old / 2 ≤ i → number_at v.new i ≡ zero_number }
 {
     sizes::squeeze(v, place, m, Zw::ZERO);

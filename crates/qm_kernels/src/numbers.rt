@@ -13,7 +13,8 @@ use qm_zomega::Numerator;
 /// Turns each number by `omega^E`, for `E` below 8.
 pub(crate) fn turn_each<Z: Numerator, const E: u8>(list: &mut [Z])
     requires { E < 8 }
-    ensures { IsListBy Z.meaning zero_number list.new (length list.old) (λ i. omega_times E (meant_at Z.meaning list.old i)) }
+    ensures { IsListBy Z.meaning zero_number list.new (length list.old)
+        (λ i. omega_times E (meant_at Z.meaning list.old i)) }
 {
     for i in 0..list.len() {
         list[i] = list[i].turned(E);
@@ -41,8 +42,10 @@ pub fn mix<Z: Numerator>(low: &mut [Z], high: &mut [Z])
     requires fits { (i : ℕ) → i < length low.old
         → Z.holds (meant_at Z.meaning low.old i ⊕ meant_at Z.meaning high.old i)
         × Z.holds (meant_at Z.meaning low.old i ⊖ meant_at Z.meaning high.old i) }
-    ensures sums { IsListBy Z.meaning zero_number low.new (length low.old) (λ i. meant_at Z.meaning low.old i ⊕ meant_at Z.meaning high.old i) }
-    ensures differences { IsListBy Z.meaning zero_number high.new (length low.old) (λ i. meant_at Z.meaning low.old i ⊖ meant_at Z.meaning high.old i) }
+    ensures sums { IsListBy Z.meaning zero_number low.new (length low.old)
+        (λ i. meant_at Z.meaning low.old i ⊕ meant_at Z.meaning high.old i) }
+    ensures differences { IsListBy Z.meaning zero_number high.new (length low.old)
+        (λ i. meant_at Z.meaning low.old i ⊖ meant_at Z.meaning high.old i) }
 {
     for i in 0..low.len() {
         let p = low[i];

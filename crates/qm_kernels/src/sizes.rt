@@ -11,7 +11,8 @@ use crate::moves::clear;
 pub fn gather<Z: Copy>(list: &mut [Z], place: u32, m: bool)
     requires { HasPlace (length list.old) place }
     ensures size { length list.new ≡ length list.old }
-    ensures gathered { (past : Z) (i : ℕ) → i < length list.old / 2 → seen_at (λ x. x) past list.new i ≡ take_at place m (seen_at (λ x. x) past list.old) i }
+    ensures gathered { (past : Z) (i : ℕ) → i < length list.old / 2
+        → seen_at (λ x. x) past list.new i ≡ take_at place m (seen_at (λ x. x) past list.old) i }
 {
     let half = half_block(list.len(), place);
     let kept = if m { half } else { 0 };
@@ -27,8 +28,10 @@ pub fn gather<Z: Copy>(list: &mut [Z], place: u32, m: bool)
 pub fn squeeze<Z: Copy>(list: &mut [Z], place: u32, m: bool, zero: Z)
     requires { HasPlace (length list.old) place }
     ensures size { length list.new ≡ length list.old }
-    ensures taken { (past : Z) (i : ℕ) → i < length list.old / 2 → seen_at (λ x. x) past list.new i ≡ take_at place m (seen_at (λ x. x) past list.old) i }
-    ensures rest { (past : Z) (i : ℕ) → length list.old / 2 ≤ i → i < length list.old → seen_at (λ x. x) past list.new i ≡ zero }
+    ensures taken { (past : Z) (i : ℕ) → i < length list.old / 2
+        → seen_at (λ x. x) past list.new i ≡ take_at place m (seen_at (λ x. x) past list.old) i }
+    ensures rest { (past : Z) (i : ℕ) → length list.old / 2 ≤ i → i < length list.old
+        → seen_at (λ x. x) past list.new i ≡ zero }
 {
     gather(list, place, m);
     let half = list.len() / 2;
@@ -42,8 +45,10 @@ pub fn squeeze<Z: Copy>(list: &mut [Z], place: u32, m: bool, zero: Z)
 pub fn pair_up<Z: Copy>(list: &mut [Z], n: u32)
     requires { length list.old ≡ 2 ^ (n + 2) }
     ensures size { length list.new ≡ length list.old }
-    ensures kept { (past : Z) (i : ℕ) → i < 3 * 2 ^ n → seen_at (λ x. x) past list.new i ≡ seen_at (λ x. x) past list.old i }
-    ensures copied { (past : Z) (i : ℕ) → i < 2 ^ n → seen_at (λ x. x) past list.new (3 * 2 ^ n + i) ≡ seen_at (λ x. x) past list.old i }
+    ensures kept { (past : Z) (i : ℕ) → i < 3 * 2 ^ n
+        → seen_at (λ x. x) past list.new i ≡ seen_at (λ x. x) past list.old i }
+    ensures copied { (past : Z) (i : ℕ) → i < 2 ^ n
+        → seen_at (λ x. x) past list.new (3 * 2 ^ n + i) ≡ seen_at (λ x. x) past list.old i }
 {
     let quarter = list.len() / 4;
     let (first, rest) = list.split_at_mut(quarter);

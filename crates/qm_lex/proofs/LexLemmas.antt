@@ -1,13 +1,13 @@
 -- The lexer's loop, over its definition.
-use Rattle.std.proofs.Common.{◌≡◌, ℕ, zero, suc, ◌+◌, ◌-◌, ◌<◌, ◌≤◌, Bool, true, false, List, [], ◌∷◌, ◌++◌, length, get_or, take, drop, Result, Ok, Err, refl, sym, ◌∙◌, ap, subst, append_assoc, arith, length-drop, add-one, eqb, cond}
+use Rattle.std.proofs.Common.{◌≡◌, ℕ, zero, suc, ◌+◌, ◌<◌, ◌≤◌, Bool, true, false, List, [], ◌∷◌, ◌++◌, length, get_or, drop, Result, Ok, Err, refl, sym, ◌∙◌, ap, subst, append_assoc, arith, length-drop, eqb, cond}
 use Rattle.std.proofs.Math.Seq.{drop-cons}
-use Rattle.std.proofs.lemmas.List.{append-nil, take_rest, drop-drop}
+use Rattle.std.proofs.lemmas.List.{append-nil, drop-drop}
 use Rattle.qm_lex.specs.declared.tokens.Token.{Token}
 use Rattle.qm_lex.specs.declared.tokens.TokenKind.{TokenKind}
 use Rattle.qm_lex.specs.declared.lexer.Piece.{Piece}
 use Rattle.qm_lex.specs.declared.lexer.Piece.TheVariants.{Gap, Part, Bad}
 use Rattle.qm_lex.specs.Lexing.{with_first, line_after, behind, lexed, tokens_of}
-use Rattle.qm_lex.specs.Pieces.{piece_at, IsPiece, HasBytes}
+use Rattle.qm_lex.specs.Pieces.{IsPiece}
 
 abbrev pub with_front : List Token → Result (List Token) ℕ → Result (List Token) ℕ
 with_front ts (Ok us) = Ok (ts ++ us)

@@ -1,6 +1,6 @@
 -- Tokens stand one behind the other
-use Rattle.std.proofs.Common.{◌≡◌, ℕ, zero, suc, ◌+◌, ◌<◌, ◌≤◌, Bool, true, false, List, [], ◌∷◌, ◌++◌, length, drop, Result, Ok, Err, refl, subst, length-append, length-take, length-drop, arith, if◌then◌else◌}
-use Rattle.std.specs.Prelude.{take_while, ◌==◌}
+use Rattle.std.proofs.Common.{◌≡◌, ℕ, zero, suc, ◌+◌, ◌<◌, ◌≤◌, Bool, true, false, List, [], ◌∷◌, ◌++◌, length, drop, Some, Result, Ok, Err, refl, subst, length-append, length-take, length-drop, arith, if◌then◌else◌}
+use Rattle.std.specs.Prelude.{slice_get, take_while, ◌==◌}
 use Rattle.std.specs.List.{prefix_len}
 use Rattle.qm_lex.specs.declared.tokens.TokenKind.TheVariants.{Symbol}
 use Rattle.qm_lex.specs.declared.lexer.Piece.{Piece}
@@ -29,6 +29,16 @@ one_more items t at len few some = omega (arith, length-append items (t ∷ []))
 SpansRise-earlier : (from later end : ℕ) (ts : List Token) → from ≤ later → SpansRise later end ts → SpansRise from end ts
 SpansRise-earlier from later end [] l r = omega arith
 SpansRise-earlier from later end (t ∷ ts) l r = let h = r.0 in let k : from ≤ t.start = omega arith in (k, r.1, r.2)
+
+SpansRise-le : (from end : ℕ) (ts : List Token) → SpansRise from end ts → from ≤ end
+SpansRise-le from end [] r = r
+SpansRise-le from end (t ∷ ts) r = omega (arith, r.0, r.1, SpansRise-le t.stop end ts r.2)
+
+-- a token among others
+pub SpansRise-at : (from end : ℕ) (ts : List Token) (j : ℕ) (t : Token) → SpansRise from end ts → Some t ≡ slice_get ts j → (t.start < t.stop) × (t.stop ≤ end)
+SpansRise-at from end [] j t r e = cc
+SpansRise-at from end (u ∷ ts) zero t r e = let h : u ≡ t = cc in subst (λ (x : Token). (x.start < x.stop) × (x.stop ≤ end)) h (r.1, SpansRise-le u.stop end ts r.2)
+SpansRise-at from end (u ∷ ts) (suc j) t r e = SpansRise-at u.stop end ts j t r.2 e
 
 -- ---- pieces have bytes of the text
 HasBytes-if : (b : Bool) (p q : Piece) (n : ℕ) → HasBytes p n → HasBytes q n → HasBytes (if b then p else q) n

@@ -1,8 +1,6 @@
 -- The tokens of a text, or the line of its first bad byte
-use Rattle.std.specs.Prelude.{◌≡◌, ℕ, zero, suc, ◌+◌, List, [], ◌∷◌, length, drop, if◌then◌else◌, ◌==◌, Result, Ok, Err, count_by, refl, codes}
+use Rattle.std.specs.Prelude.{◌≡◌, ℕ, zero, suc, ◌+◌, List, [], ◌∷◌, length, drop, if◌then◌else◌, ◌==◌, Result, Ok, Err, count_by}
 use Rattle.qm_lex.specs.declared.tokens.Token.{Token}
-use Rattle.qm_lex.specs.declared.tokens.TokenKind.{TokenKind}
-use Rattle.qm_lex.specs.declared.tokens.TokenKind.TheVariants.{Word, Number, Symbol}
 use Rattle.qm_lex.specs.declared.tokens.Tokens.{Tokens}
 use Rattle.qm_lex.specs.declared.lexer.LexError.{LexError}
 use Rattle.qm_lex.specs.declared.lexer.LexError.TheVariants.{BadByte, Memory}

@@ -1,5 +1,5 @@
 -- Tokens of texts, by computation
-use Rattle.std.specs.Prelude.{◌≡◌, ℕ, List, [], ◌∷◌, ◌++◌, Result, Ok, Err, codes, refl}
+use Rattle.std.specs.Prelude.{◌≡◌, ℕ, [], ◌∷◌, ◌++◌, Ok, Err, codes, refl}
 use Rattle.qm_lex.specs.declared.tokens.Token.{Token}
 use Rattle.qm_lex.specs.declared.tokens.TokenKind.{TokenKind}
 use Rattle.qm_lex.specs.declared.tokens.TokenKind.TheVariants.{Word, Number, Symbol}

@@ -1,4 +1,4 @@
-//! Texts with each kind of token, and the line of the first bad byte; the text of the largest size.
+//! Texts with each kind of token, and the line of the first bad byte.
 use super::*;
 use std::alloc::Global;
 use std::test::Fail;

@@ -82,6 +82,7 @@ module _ (f g h : Facts) (r : ℕ) (xs ys : List Act) (d : Did f r xs g) (e : Di
         sound = e.sound;
         limits = e.limits ∙ ap (limits_after_all ys) d.limits ∙ sym (limits_after_all-append xs ys (limits_of f));
         capacity = e.capacity ∙ d.capacity;
+        sizes = e.sizes ∙ d.sizes;
         letters = counted_both f.letters g.letters h.letters length length-append d.letters e.letters;
         paulis = counted_both f.paulis g.paulis h.paulis (count_by is_pauli) (sum_by-append (λ l. cond (is_pauli l) 1 0)) d.paulis e.paulis;
       }
@@ -101,6 +102,10 @@ moved_sound f r n sound =
             λ here. let (p, at) = (sound.live w).0 here in (p, (at_with_part f.tables r x w p).1 at),
             λ (p, at). (sound.live w).1 (p, (at_with_part f.tables r x w p).0 at),
           );
+      placing = sound.placing;
+      slotted = sound.slotted;
+      few = sound.few;
+      room = sound.room;
       fewer = sound.fewer;
     }
 
@@ -118,6 +123,7 @@ advanced p f g h r n w is count d e =
       stands = λ c s. rw is (d.stands c s);
       sound = moved_sound g r n d.sound;
       capacity = d.capacity;
+      sizes = d.sizes;
       parcels = did_parcels f g r (list_of w.acts) d;
       ranks = did_ranks f g r (list_of w.acts) d;
       letters = d.letters ∙ ap (λ o. f.letters + length (row_letters r o f.tables)) (sym is);

@@ -1,5 +1,5 @@
 -- The line of the table at which a rank stands
-use Rattle.std.proofs.Common.{◌≡◌, ◌<◌, ◌+◌, ◌^◌, ℕ, Bool, true, false, nat_lt, ◌==◌, if◌then◌else◌, Option, Some, None, is_some, [], ◌++◌, ◌≤◌, length, take, slice_get, refl, sym, ap, subst, ◌∙◌, arith}
+use Rattle.std.proofs.Common.{◌≡◌, ◌<◌, ◌+◌, ◌^◌, ℕ, Bool, true, false, nat_lt, ◌==◌, if◌then◌else◌, Option, Some, None, is_some, List, [], ◌∷◌, ◌++◌, ◌≤◌, length, take, slice_get, inl, inr, refl, sym, ap, subst, ◌∙◌, arith}
 use Rattle.std.specs.Option.{option_or}
 use Rattle.std.specs.List.{AllByRecursion}
 use Rattle.std.proofs.lemmas.Option.{slice_get_within, get_or_from_slice_get}
@@ -14,17 +14,21 @@ use Rattle.qm_check.specs.declared.Fault.{Fault}
 use Rattle.qm_check.specs.Checks.{IsReady, Step}
 use Rattle.qm_check.specs.Operands.{uses_of, partner_of}
 use Rattle.qm_check.specs.Slots.{partner_fault, slot_fault, fault_if_any, full_after}
+use Rattle.qm_denot.specs.Circuits.{Circuit}
 use Rattle.qm_denot.specs.declared.Letter.{Letter}
 use Rattle.qm_denot.specs.declared.Letter.TheVariants.{Phase, Flip, Had}
 use Rattle.qm_proto.specs.declared.Cause.{Cause}
+use Rattle.qm_proto.specs.declared.Cause.TheVariants as cause
 use Rattle.qm_proto.specs.declared.Check.{Check}
+use Rattle.qm_proto.specs.declared.Check.TheVariants.{Possible, Zero, Equal, Fits}
+use Rattle.qm_proto.specs.declared.Event.TheVariants as event
 use Rattle.qm_proto.specs.declared.Few.{Few}
 use Rattle.qm_proto.specs.declared.Few.TheVariants.{Empty}
 use Rattle.qm_proto.specs.Model.Acts.{list_of}
 use Rattle.qm_proto.specs.Model.State.{Tables, wire_in, bit_of, wire_of, first_bit, second_bit}
 use Rattle.qm_proto.specs.declared.Row.{Row}
 use Rattle.qm_proto.specs.Model.Rows.{rows, current, letter, letter_checks, gate_letter, few_if}
-use Rattle.qm_proto.specs.Model.Runs.{row_in, row_next, row_holds, row_checks, holds, enabled, has_event}
+use Rattle.qm_proto.specs.Model.Runs.{FirstFails, row_in, row_next, row_holds, row_checks, holds, enabled, has_event}
 use Rattle.qm_proto.proofs.Positions.{all_at_kept, all_stage_kept}
 use Rattle.qm_runs.proofs.Tables.Lines.{rows_count}
 use Rattle.qm_machine.specs.Facts.{Facts, Did}
@@ -78,7 +82,7 @@ at_few p t r i in_range known stands =
 -- ---- lines can be tried
 module _ (P : Row → Type 0) where
   -- what is so of each line of each instruction is so of the next one
-  each_line : (p : Programs) (t : Tables) (r : ℕ) (i : Instr) (k : ℕ) (w : Row) → AllByRecursion P (rows p t r i) → slice_get (rows p t r i) k ≡ Some w → P w
+  pub each_line : (p : Programs) (t : Tables) (r : ℕ) (i : Instr) (k : ℕ) (w : Row) → AllByRecursion P (rows p t r i) → slice_get (rows p t r i) k ≡ Some w → P w
   each_line p t r i k w all is =
       let ws = rows p t r i in
       let this = All-get_or P ws k w (slice_get_within ws k w is) (All-from_recursion P ws all) in
@@ -139,6 +143,51 @@ rows_triable p t r (instr.ReachFrom q from tag) =
     let w = wire_of x in
     (ok _ refl refl, (ok _ (fix_told (first_bit x) (Flip w) refl) (if_sure (first_bit x) (Flip w)), (ok _ refl refl, (ok _ refl refl, (ok _ refl refl, tt)))))
 
+-- ---- a line that may be refused as impossible is a measurement's
+record IsOwn (w : Row) : Type 0 where
+  pub own : (g : Circuit) → FirstFails g (list_of w.checks) cause.Impossible → w.event ≡ event.Measure
+
+-- whether no test asks if an outcome is possible
+abbrev asks_none : List Check → Bool
+asks_none [] = true
+asks_none (Possible w m ∷ ks) = false
+asks_none (_ ∷ ks) = asks_none ks
+
+never_impossible : (g : Circuit) (ks : List Check) → asks_none ks ≡ true → ¬ FirstFails g ks cause.Impossible
+never_impossible g [] none h = h
+never_impossible g (Possible w m ∷ ks) none h = cc
+never_impossible g (Zero w ∷ ks) none (inl h) = let e = h.1 in cc
+never_impossible g (Zero w ∷ ks) none (inr h) = never_impossible g ks none h.1
+never_impossible g (Equal w v ∷ ks) none (inl h) = let e = h.1 in cc
+never_impossible g (Equal w v ∷ ks) none (inr h) = never_impossible g ks none h.1
+never_impossible g (Fits w ∷ ks) none (inl h) = let e = h.1 in cc
+never_impossible g (Fits w ∷ ks) none (inr h) = never_impossible g ks none h.1
+
+other : (w : Row) → asks_none (list_of w.checks) ≡ true → IsOwn w
+other w none = record { own = λ g h. absurd (never_impossible g (list_of w.checks) none h) }
+
+letter_asks_none : (l : Letter) → asks_none (list_of (letter_checks l)) ≡ true
+letter_asks_none (Had w) = refl
+letter_asks_none _ = refl
+
+if_asks_none : (b : Bool) (l : Letter) → asks_none (list_of (few_if b (letter_checks l))) ≡ true
+if_asks_none true l = letter_asks_none l
+if_asks_none false l = refl
+
+rows_own : (p : Programs) (t : Tables) (r : ℕ) (i : Instr) → AllByRecursion IsOwn (rows p t r i)
+rows_own p t r (instr.Do g) = (other _ (letter_asks_none (gate_letter (wire_in t r) g)), tt)
+rows_own p t r (instr.When b g) = (other _ (if_asks_none (bit_of t r b) (gate_letter (wire_in t r) g)), tt)
+rows_own p t r (instr.Measure q b) = (record { own = λ g h. refl }, tt)
+rows_own p t r (instr.CopyTo q to tag) = (other _ refl, (other _ refl, (other _ refl, tt)))
+rows_own p t r (instr.CopyFrom q from tag) = (other _ refl, (other _ refl, tt))
+rows_own p t r (instr.UndoTo q to tag) = (other _ refl, (other _ refl, tt))
+rows_own p t r (instr.UndoFrom q from tag) = (other _ refl, (other _ refl, tt))
+rows_own p t r (instr.MoveTo q to tag) = (other _ refl, (other _ refl, (other _ refl, (other _ refl, (other _ refl, tt)))))
+rows_own p t r (instr.MoveFrom q from tag) = (other _ refl, (other _ refl, (other _ refl, tt)))
+rows_own p t r (instr.ReachTo q to tag) = (other _ refl, (other _ refl, (other _ refl, (other _ refl, (other _ refl, tt)))))
+rows_own p t r (instr.ReachFrom q from tag) = (other _ refl, (other _ refl, (other _ refl, (other _ refl, (other _ refl, tt)))))
+rows_own p t r _ = (other _ refl, tt)
+
 -- ---- the line at which a rank stands
 -- the instruction whose line it is
 pub record Line (p : Programs) (t : Tables) (r : ℕ) (w : Row) : Type 0 where
@@ -162,6 +211,9 @@ module _ (p : Programs) (t : Tables) (r : ℕ) (w : Row) (is : row_next p t r �
 
   pub triable_next : IsTriable w
   triable_next = each_line IsTriable p t r at.i (t.parts r).stage w (rows_triable p t r at.i) at.line
+
+  pub measured : (g : Circuit) → FirstFails g (list_of w.checks) cause.Impossible → w.event ≡ event.Measure
+  measured = (each_line IsOwn p t r at.i (t.parts r).stage w (rows_own p t r at.i) at.line).own
 
   pub has_event_is : has_event p t r ≡ true
   has_event_is = ap is_some is

@@ -1,5 +1,5 @@
 -- Each act on the tables and the store is the model's act
-use Rattle.std.proofs.Common.{◌≡◌, ℕ, ◌+◌, ◌-◌, ◌≤◌, ◌^◌, Bool, true, false, Option, None, Some, unwrap_or, List, [], ◌∷◌, ◌++◌, length, count_by, Contains, refl, sym, ap, subst, ◌∙◌, arith, append-nil, append_assoc, length-append}
+use Rattle.std.proofs.Common.{◌≡◌, ℕ, ◌+◌, ◌-◌, ◌≤◌, ◌^◌, Bool, true, false, Option, None, Some, unwrap_or, List, [], ◌∷◌, ◌++◌, length, count_by, Contains, refl, sym, ap, ap₂, subst, ◌∙◌, arith, append-nil, append_assoc, length-append}
 use Rattle.std.proofs.lemmas.List.{length_push}
 use Rattle.std.proofs.lemmas.List.Sums.{count_by-le-length}
 use Rattle.std.proofs.lemmas.Option.{same_Some}
@@ -10,6 +10,7 @@ use Rattle.qm_denot.specs.Circuits.{Circuit}
 use Rattle.qm_denot.specs.WireLists.{without_wire}
 use Rattle.qm_denot.specs.Stores.{Store, StandsFor, MayApply, MayGrow, live_after, IsSound as IsStoreSound}
 use Rattle.qm_instr.specs.declared.Lane.{Lane}
+use Rattle.qm_owner.specs.Places.{IsPlacing}
 use Rattle.qm_denot.specs.declared.Parcel.{Parcel}
 use Rattle.qm_proto.specs.Model.State.{Tables, no_wire, with_at, with_part, far_made, near_made, near_last}
 use Rattle.qm_proto.specs.declared.Act.{Act}
@@ -25,7 +26,11 @@ use Rattle.qm_machine.proofs.LivePlaces.{AreLive, live_beside, live_more, live_l
 -- ---- what an act does beside the tables
 pub record Beside (f g : Facts) (ls : List Letter) : Type 0 where
   pub stands : (c : Circuit) → StandsFor f.store c → StandsFor g.store (c ++ ls)
-  pub capacity : g.store.capacity ≡ f.store.capacity
+  pub room : g.store.capacity ≡ f.store.capacity
+  pub placing : IsPlacing g.places.placed
+  pub slotted : g.places.ranks ≡ f.places.ranks
+  pub capacity : g.places.capacity ≡ f.places.capacity
+  pub sizes : g.sizes ≡ f.sizes
   pub parcels : g.parcels ≡ f.parcels
   pub ranks : g.ranks ≡ f.ranks
   pub letters : g.letters ≡ f.letters + length ls
@@ -44,11 +49,11 @@ same_limits s n ranks wires parcels letters =
 -- the act is done: the tables are the model's, the live wires are those with a place, and the limits are what it leaves
 did : (f g : Facts) (r : ℕ) (act : Act) → Can f r (act ∷ []) → g.tables ≡ done r act f.tables
     → Beside f g (all_letters r (act ∷ []) f.tables) → AreLive g.store.live (done r act f.tables)
-    → room_of g.store ≡ (limits_after act (limits_of f)).wires
+    → length g.store.live ≤ g.places.capacity → room_of g ≡ (limits_after act (limits_of f)).wires
     → (limits_after act (limits_of f)).ranks ≡ f.ranks → (limits_after act (limits_of f)).parcels ≡ f.parcels
     → (limits_after act (limits_of f)).letters ≡ (2 ^ 32 - f.letters) - length (all_letters r (act ∷ []) f.tables)
     → Did f r (act ∷ []) g
-did f g r act can tables beside live room ranks parcels letters =
+did f g r act can tables beside live few_live room ranks parcels letters =
     let ls = all_letters r (act ∷ []) f.tables in
     let few : count_by is_pauli ls ≤ length ls = count_by-le-length is_pauli ls in
     let fewer : f.paulis ≤ f.letters = can.sound.fewer in
@@ -57,9 +62,17 @@ did f g r act can tables beside live room ranks parcels letters =
     record {
       tables = tables;
       stands = beside.stands;
-      sound = record { live = subst (AreLive g.store.live) (sym tables) live; fewer = omega arith };
+      sound = record {
+        live = subst (AreLive g.store.live) (sym tables) live;
+        placing = beside.placing;
+        slotted = beside.slotted ∙ can.sound.slotted ∙ sym beside.ranks;
+        few = few_live;
+        room = omega (arith, can.sound.room, beside.room, beside.capacity);
+        fewer = omega arith;
+      };
       limits = same_limits (limits_of g) (limits_after act (limits_of f)) (beside.ranks ∙ sym ranks) room (beside.parcels ∙ sym parcels) (omega arith);
       capacity = beside.capacity;
+      sizes = beside.sizes;
       letters = beside.letters;
       paulis = beside.paulis;
     }
@@ -67,6 +80,10 @@ did f g r act can tables beside live room ranks parcels letters =
 -- ---- acts that do not touch the store
 pub record SameStore (f g : Facts) : Type 0 where
   pub store : g.store ≡ f.store
+  pub placing : IsPlacing g.places.placed
+  pub slotted : g.places.ranks ≡ f.places.ranks
+  pub capacity : g.places.capacity ≡ f.places.capacity
+  pub sizes : g.sizes ≡ f.sizes
   pub parcels : g.parcels ≡ f.parcels
   pub ranks : g.ranks ≡ f.ranks
   pub letters : g.letters ≡ f.letters
@@ -80,14 +97,19 @@ module _ (f g : Facts) (r : ℕ) (same : SameStore f g) where
       let paulis = same.paulis in
       let beside : Beside f g [] = record {
         stands = λ c h. rw (append-nil c) (subst (λ s. StandsFor s c) (sym same.store) h);
-        capacity = ap (λ (s : Store). s.capacity) same.store;
+        room = ap (λ (s : Store). s.capacity) same.store;
+        placing = same.placing;
+        slotted = same.slotted;
+        capacity = same.capacity;
+        sizes = same.sizes;
         parcels = same.parcels;
         ranks = same.ranks;
         letters = omega arith;
         paulis = omega arith;
       } in
       did f g r act can tables (subst (Beside f g) (sym none) beside) (subst (λ (s : Store). AreLive s.live (done r act f.tables)) (sym same.store) live)
-      (ap room_of same.store ∙ ap (λ (s : Limits). s.wires) (sym left)) (ap (λ (s : Limits). s.ranks) left) (ap (λ (s : Limits). s.parcels) left)
+      (omega (arith, can.sound.few, same.capacity, ap (λ (s : Store). length s.live) same.store))
+      (ap₂ (λ (n : ℕ) (s : Store). n - length s.live) same.capacity same.store ∙ ap (λ (s : Limits). s.wires) (sym left)) (ap (λ (s : Limits). s.ranks) left) (ap (λ (s : Limits). s.parcels) left)
       (ap (λ (s : Limits). s.letters) left ∙ rw none (omega arith))
 
   -- parts and lanes may change, and no wire moves
@@ -135,13 +157,16 @@ did_fresh f g r q can tables beside live =
     let more : length g.store.live ≡ length ws + 1 = ap length live ∙ length_push ws w in
     let placed = live_more u (slot_changed u r q (Some w)) w (InSlot r q) ws (slot_comes u r q w can.may.0.empty) (live_beside t u.parts t.held t.lanes ws can.sound.live) in
     let capacity = beside.capacity in
-    did f g r (Fresh q) can tables beside (subst (λ xs. AreLive xs (done r (Fresh q) t)) (sym live) placed) (omega arith) refl refl (omega arith)
+    let wide = can.may.0.room in
+    did f g r (Fresh q) can tables beside (subst (λ xs. AreLive xs (done r (Fresh q) t)) (sym live) placed)
+    (omega arith) (omega arith) refl refl (omega arith)
 
 -- ---- a pair
 pub may_pair : (f : Facts) (r to : ℕ) → Can f r (Twin to ∷ []) → MayGrow f.store → MayApply (Pair (near_made f.tables r) (far_made f.tables r)) f.store
 may_pair f r to can grow =
     let may = can.may.0 in
-    let room = may.room in (
+    let room = may.room in
+    let wide = can.sound.room in (
       (λ h. may.near_absent ((can.sound.live (near_made f.tables r)).0 h)),
       (λ h. may.far_absent ((can.sound.live (far_made f.tables r)).0 h)),
       (λ e. let n : true ≡ false = ap (λ (w : Wire). w.near) e in cc),
@@ -160,10 +185,11 @@ did_twin f g r to can tables beside live =
     let ws = f.store.live in
     let more : length g.store.live ≡ length ws + 2 = ap length live ∙ length-append ws (e ∷ w ∷ []) in
     let near = live_more u (near_more u r e) e (NearOf r) ws (near_comes u r e) (live_beside t u.parts u.held t.lanes ws can.sound.live) in
+    let wide = can.may.0.room in
     let both = live_more (near_more u r e) (far_more (near_more u r e) to w) w (FarOf to) (ws ++ e ∷ []) (far_comes (near_more u r e) to w) near in
     let capacity = beside.capacity in
     did f g r (Twin to) can tables beside (subst (λ xs. AreLive xs (done r (Twin to) t)) (append_assoc ws (e ∷ []) (w ∷ []) ∙ sym live) both)
-    (omega arith) refl refl (omega arith)
+    (omega arith) (omega arith) refl refl (omega arith)
 
 -- ---- a letter that moves no wire
 live_kept : (r : ℕ) (l : Letter) (t : Tables) (ws : List Wire) → MayLetter r l t → live_after l ws ≡ ws
@@ -195,9 +221,11 @@ pub did_letter : (f g : Facts) (r : ℕ) (l : Letter) → Can f r (Apply l ∷ [
     → g.store.live ≡ live_after l f.store.live → Did f r (Apply l ∷ []) g
 did_letter f g r l can tables beside live =
     let same : g.store.live ≡ f.store.live = live ∙ live_kept r l f.tables f.store.live can.may.0.0 in
-    let few : length g.store.live ≡ length f.store.live = ap length same in
+    let size : length g.store.live ≡ length f.store.live = ap length same in
+    let few = can.sound.few in
     let capacity = beside.capacity in
-    did f g r (Apply l) can tables beside (subst (λ xs. AreLive xs f.tables) (sym same) can.sound.live) (omega arith) refl refl (omega arith)
+    did f g r (Apply l) can tables beside (subst (λ xs. AreLive xs f.tables) (sym same) can.sound.live)
+    (omega arith) (omega arith) refl refl (omega arith)
 
 -- ---- a near half that is measured away
 pub near_lives : (f : Facts) (r : ℕ) (m : Bool) → Can f r (NearOut m ∷ []) → Contains f.store.live (near_last f.tables r)
@@ -212,11 +240,12 @@ did_near_out f g r m can store tables beside live =
     let ws = f.store.live in
     let fewer : length (without_wire ws w) + 1 ≡ length ws = length-without_wire ws w store.distinct (near_lives f r m can) in
     let size : length g.store.live ≡ length (without_wire ws w) = ap length live in
-    let few = store.few in
+    let few = can.sound.few in
     let capacity = beside.capacity in
     let less = live_less t (near_less t r w) w ws (near_leaves t r w can.may.0.only) can.sound.live in
     let gone = live_beside (near_less t r w) t.parts (less_at t.held r) t.lanes (without_wire ws w) less in
-    did f g r (NearOut m) can tables beside (subst (λ xs. AreLive xs (done r (NearOut m) t)) (sym live) gone) (omega arith) refl refl (omega arith)
+    did f g r (NearOut m) can tables beside (subst (λ xs. AreLive xs (done r (NearOut m) t)) (sym live) gone)
+    (omega arith) (omega arith) refl refl (omega arith)
 
 -- ---- a wire that is measured away, by whichever act
 module _ (f g : Facts) (r : ℕ) (w : Wire) (m : Bool) (act : Act) (can : Can f r (act ∷ [])) (store : IsStoreSound f.store) (here : IsPlaced f.tables w) where
@@ -224,17 +253,17 @@ module _ (f g : Facts) (r : ℕ) (w : Wire) (m : Bool) (act : Act) (can : Can f 
   taken_lives = (can.sound.live w).1 here
 
   did_take : g.tables ≡ done r act f.tables → Beside f g (Take w m ∷ []) → all_letters r (act ∷ []) f.tables ≡ Take w m ∷ []
-      → limits_after act (limits_of f) ≡ record (limits_of f) { wires = room_of f.store + 1; letters = (2 ^ 32 - f.letters) - 1 }
+      → limits_after act (limits_of f) ≡ record (limits_of f) { wires = room_of f + 1; letters = (2 ^ 32 - f.letters) - 1 }
       → g.store.live ≡ without_wire f.store.live w → AreLive (without_wire f.store.live w) (done r act f.tables) → Did f r (act ∷ []) g
   did_take tables beside letters left live gone =
       let ws = f.store.live in
       let fewer : length (without_wire ws w) + 1 ≡ length ws = length-without_wire ws w store.distinct taken_lives in
       let size : length g.store.live ≡ length (without_wire ws w) = ap length live in
-      let few = store.few in
+      let few = can.sound.few in
       let capacity = beside.capacity in
-      let room : room_of g.store ≡ room_of f.store + 1 = omega arith in
+      let room : room_of g ≡ room_of f + 1 = omega arith in
       did f g r act can tables (subst (Beside f g) (sym letters) beside) (subst (λ xs. AreLive xs (done r act f.tables)) (sym live) gone)
-      (room ∙ sym (ap (λ (s : Limits). s.wires) left)) (ap (λ (s : Limits). s.ranks) left) (ap (λ (s : Limits). s.parcels) left)
+      (omega arith) (room ∙ sym (ap (λ (s : Limits). s.wires) left)) (ap (λ (s : Limits). s.ranks) left) (ap (λ (s : Limits). s.parcels) left)
       (ap (λ (s : Limits). s.letters) left ∙ rw letters (omega arith))
 
 pub did_far_out : (f g : Facts) (r : ℕ) (w : Wire) (m : Bool) → Can f r (FarOut w m ∷ []) → IsStoreSound f.store

@@ -1,17 +1,18 @@
 -- A machine before its first event, and bounds on what its readers tell
 use Rattle.std.proofs.Common.{◌≡◌, ◌<◌, ◌≤◌, ◌↔◌, ℕ, List, [], Option, None, Some, Contains, length, count_by, refl, sym, ap, subst, ◌∙◌, arith}
+use Rattle.std.proofs.lemmas.List.{length-map}
+use Rattle.std.proofs.lemmas.List.{get_or-map}
 use Rattle.qm_denot.specs.declared.Wire.{Wire}
 use Rattle.qm_denot.specs.Stores.{Store, StandsFor}
 use Rattle.qm_denot.proofs.Sets.{has-no_wires}
-use Rattle.qm_instr.specs.Programs.{Programs, IsInRange, rank_of}
-use Rattle.qm_instr.proofs.Ranges.{rank_of-in_range}
+use Rattle.qm_instr.specs.Programs.{RankProgram, Programs, IsInRange, rank_of, idle_rank}
+use Rattle.qm_owner.specs.Places.{PlaceMap, IsPlacing}
 use Rattle.qm_check.specs.Checks.{IsReady, capacity_of}
 use Rattle.qm_proto.specs.Model.State.{State, Tables}
 use Rattle.qm_proto.specs.Model.Places.{InSlot, NearOf, FarOf, IsPlaced}
-use Rattle.qm_proto.specs.Model.Runs.{halves}
 use Rattle.qm_proto.specs.Model.Schedules.{replay, tables_at_start, state_at_start, IsLegal}
 use Rattle.qm_machine.specs.declared.Halt.{Halt}
-use Rattle.qm_machine.specs.Facts.{Facts, IsAtStart, IsSound, is_pauli}
+use Rattle.qm_machine.specs.Facts.{Facts, IsAtStart, IsSound, is_pauli, size_at}
 use Rattle.qm_runs.specs.Tables.Totals.{event_total}
 use Rattle.qm_machine.specs.Keeps.{IsKept}
 use Rattle.qm_runs.proofs.Tables.Standing.{well, well_roomy}
@@ -30,13 +31,20 @@ replay_nothing : (p : Programs) → replay p [] ≡ state_at_start p
 unfolding replay
 replay_nothing p = refl
 
-sound_at_start : (p : Programs) (s : Store) (f : Facts) → IsAtStart p s f → s.live ≡ [] → IsSound f
-sound_at_start p s f a empty =
+nothing_placed : IsPlacing []
+nothing_placed = record { wires = tt; slots = tt }
+
+sound_at_start : (p : Programs) (s : Store) (f : Facts) → IsAtStart p s f → s.live ≡ [] → capacity_of p ≤ s.capacity → IsSound f
+sound_at_start p s f a empty wide =
     let none : f.store.live ≡ [] = ap (λ (x : Store). x.live) a.store ∙ empty in
     record {
       live = λ w. subst (λ (t : Tables). Contains f.store.live w ↔ IsPlaced t w) (sym a.tables)
           (subst (λ (ws : List Wire). Contains ws w ↔ IsPlaced (tables_at_start p) w) (sym none)
           ((λ (h : Contains [] w). absurd (omega arith)), (λ (h : IsPlaced (tables_at_start p) w). absurd (unplaced p w h))));
+      placing = subst (λ (m : PlaceMap). IsPlacing m.placed) (sym a.places) nothing_placed;
+      slotted = ap (λ (m : PlaceMap). m.ranks) a.places ∙ sym a.ranks;
+      few = omega (arith, ap (λ (ws : List Wire). length ws) none);
+      room = omega (arith, wide, ap (λ (m : PlaceMap). m.capacity) a.places, ap (λ (x : Store). x.capacity) a.store);
       fewer = omega arith;
     }
 
@@ -55,21 +63,21 @@ kept_at_start p s f room rs ready ranged a stands empty wide turns e =
       paulis = a.paulis ∙ ap (λ (x : State). count_by is_pauli x.circuit) back;
       parcels = a.parcels;
       ranks = a.ranks;
-      sound = sound_at_start p s f a empty;
-      wires = subst (λ (x : Store). capacity_of p ≤ x.capacity) (sym a.store) wide;
+      sound = sound_at_start p s f a empty wide;
+      wires = omega (arith, ap (λ (m : PlaceMap). m.capacity) a.places);
+      sizes = a.sizes;
       turns = turns;
       halt = tt;
     })
 
 module _ (p : Programs) (rs : List ℕ) (h : Option Halt) (f : Facts) (room : ℕ) (k : IsKept p rs h f room) (r : ℕ) (known : r < length p.ranks) where
-  -- a rank holds no more halves than its buffer has room for
-  pub kept_halves : halves f.tables r ≤ (rank_of p r).buffer
-  kept_halves =
-      subst (λ (t : Tables). halves t r ≤ (rank_of p r).buffer) (sym k.tables) ((well_roomy p (replay p rs).tables k.in_range (well p k.ready k.in_range rs k.legal)).halves_few r known)
+  -- a rank's buffer has the size that its program says
+  pub kept_size : size_at f.sizes r ≡ (rank_of p r).buffer
+  kept_size =
+      ap (λ ns. size_at ns r) k.sizes ∙ get_or-map (λ (x : RankProgram). x.buffer) p.ranks r idle_rank 0 known
 
-  -- which are 8 at most
-  pub kept_halves_few : halves f.tables r ≤ 8
-  kept_halves_few = omega (arith, kept_halves, (rank_of-in_range p r known k.in_range).most_buffer)
+  pub kept_sized : r < length f.sizes
+  kept_sized = omega (arith, known, ap (λ (ns : List ℕ). length ns) k.sizes, length-map p.ranks (λ (x : RankProgram). x.buffer))
 
 -- a rank that there isn't has no wire
 pub no_slot_elsewhere : (p : Programs) (rs : List ℕ) (h : Option Halt) (f : Facts) (room : ℕ) → IsKept p rs h f room

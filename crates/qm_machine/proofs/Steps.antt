@@ -25,9 +25,13 @@ use Rattle.qm_machine.specs.Tries.{Passes, Stops, Advanced}
 use Rattle.qm_machine.specs.Views.{facts}
 use Rattle.qm_machine.specs.Keeps.{MachineView, IsKept, Keeps, MayHalt, HaltsAt, IsSame, StepDid, StepBlocked, StepEnded, StepHalts, MayGo, MustWait, event_of, halt_of}
 use Rattle.qm_proto.proofs.Replays.{replay-push, legal-push}
+use Rattle.qm_runs.specs.Safety.Legal.{IsLegalRun}
+use Rattle.qm_runs.proofs.Following.Simulating.{simulation_law}
+use Rattle.qm_runs.proofs.Headline.{headline_law}
 use Rattle.qm_runs.proofs.Safety.States.{safe}
 use Rattle.qm_runs.proofs.Tables.Standing.{well}
 use Rattle.qm_runs.proofs.Tables.Counting.{event_where_held, schedule_few, event_total_few}
+use Rattle.qm_runs.proofs.Weighing.Weights.{weight_law}
 
 -- the store of what a body means is the body's
 pub facts_store : {A : Type 0} (store : A → Store) (b : Body A) → (facts store b).store ≡ store b.amps
@@ -107,6 +111,7 @@ module _ (p : Programs) (rs : List ℕ) (h : Option Halt) (f : Facts) (room : �
           ranks = done.ranks ∙ k.ranks;
           sound = done.sound;
           wires = subst (λ (n : ℕ). capacity_of p ≤ n) (sym done.capacity) k.wires;
+          sizes = done.sizes ∙ k.sizes;
           turns = k.turns;
           halt = subst (λ (x : Option Halt). MayHalt p (rs ++ r ∷ []) x) (sym running) tt;
         }
@@ -120,6 +125,7 @@ module _ {A : Type 0} (store : A → Store) (p : Programs) (rs : List ℕ) (h : 
   pub keeps : Keeps store (shown p rs h b)
   keeps =
       let e : (facts store b).store ≡ store b.amps = facts_store store b in
+      let run : IsLegalRun p rs = record { ready = k.ready; in_range = k.in_range; legal = k.legal } in
       record {
         ready = k.ready;
         in_range = k.in_range;
@@ -129,8 +135,11 @@ module _ {A : Type 0} (store : A → Store) (p : Programs) (rs : List ℕ) (h : 
         placed = subst (λ (s : Store). (w : Wire) → Contains s.live w ↔ IsPlaced (replay p rs).tables w) e
             (at_replay _ _ _ _ _ k (λ (x : Tables). (w : Wire) → Contains (facts store b).store.live w ↔ IsPlaced x w) k.sound.live);
         tidy = (well p k.ready k.in_range rs k.legal).tidy;
-        safe = safe p rs (record { ready = k.ready; in_range = k.in_range; legal = k.legal });
-        room = subst (λ (s : Store). capacity_of p ≤ s.capacity) e k.wires;
+        safe = safe p rs run;
+        simulated = simulation_law p k.ready k.in_range rs k.legal;
+        weighed = weight_law p rs run;
+        ends = λ ended. headline_law p k.ready k.in_range rs (record { legal = k.legal; ended = ended });
+        room = subst (λ (s : Store). capacity_of p ≤ s.capacity) e (omega (arith, k.wires, k.sound.room));
         halt = k.halt;
       }
 

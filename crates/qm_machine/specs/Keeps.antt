@@ -17,8 +17,11 @@ use Rattle.qm_proto.specs.Model.Runs.{row_next, enabled, has_event, IsRefused}
 use Rattle.qm_proto.specs.Model.Schedules.{replay, IsLegal, IsStuck, IsLowestLeft, MayStep, AllEnded}
 use Rattle.qm_proto.specs.Model.Places.{IsPlaced}
 use Rattle.qm_proto.specs.Model.Tidy.{IsTidy}
+use Rattle.qm_runs.specs.Following.Simulation.{Simulates}
+use Rattle.qm_runs.specs.Headline.{ComesToOne}
 use Rattle.qm_runs.specs.Safety.States.{IsSafe}
 use Rattle.qm_runs.specs.Tables.Totals.{event_total}
+use Rattle.qm_runs.specs.Weighing.Weights.{IsWeighed}
 use Rattle.qm_machine.specs.declared.Halt.{Halt}
 use Rattle.qm_machine.specs.declared.State as answer
 use Rattle.qm_machine.specs.declared.State.TheVariants as state
@@ -26,7 +29,7 @@ use Rattle.qm_machine.specs.declared.Step.{Step}
 use Rattle.qm_machine.specs.declared.Step.TheVariants as step
 use Rattle.qm_machine.specs.declared.Why.{Why}
 use Rattle.qm_machine.specs.declared.Why.TheVariants.{LaneEmpty, NoRoom, PartnerElsewhere}
-use Rattle.qm_machine.specs.Facts.{Facts, IsSound, is_pauli}
+use Rattle.qm_machine.specs.Facts.{Facts, IsSound, is_pauli, sizes_of}
 
 -- the programs, the schedule so far, the halt where a step halted the machine, and the store
 pub record MachineView (A : Type 0) : Type 0 where
@@ -66,7 +69,9 @@ abbrev pub halt_of : ℕ → List ℕ → Cause → Halt
 halt_of r schedule c = record { rank = r; turns = length schedule; cause = c }
 
 -- what every machine keeps: its programs have no fault, its schedule is legal, its store stands for the circuit of the
--- schedule's replay and its live wires are those that have a place there, its state is safe, and a halt stands at the schedule's end
+-- schedule's replay and its live wires are those that have a place there, its state is safe, and a halt stands at the schedule's end.
+-- The schedule is simulated by its ideal run; its circuit is not zero, and each outcome of a protocol tape halves its weight; and where no
+-- rank has an event left, it comes to the one circuit of the programs
 pub record Keeps {A : Type 0} (store : A → Store) (m : MachineView A) : Type 0 where
   pub ready : IsReady m.programs
   pub in_range : IsInRange m.programs
@@ -76,6 +81,9 @@ pub record Keeps {A : Type 0} (store : A → Store) (m : MachineView A) : Type 0
   pub placed : (w : Wire) → Contains (store m.amps).live w ↔ IsPlaced (state_of m).tables w
   pub tidy : IsTidy (state_of m).tables
   pub safe : IsSafe m.programs m.schedule
+  pub simulated : Simulates m.programs m.schedule
+  pub weighed : IsWeighed m.programs m.schedule
+  pub ends : AllEnded m.programs (state_of m).tables → (ranks : List ℕ) × ComesToOne m.programs m.schedule ranks
   pub room : capacity_of m.programs ≤ (store m.amps).capacity
   pub halt : MayHalt m.programs m.schedule m.halted
 
@@ -203,6 +211,7 @@ pub record IsKept (p : Programs) (schedule : List ℕ) (h : Option Halt) (f : Fa
   pub parcels : (a : Lane) → lane_sends p a ≤ f.parcels a
   pub ranks : f.ranks ≡ length p.ranks
   pub sound : IsSound f
-  pub wires : capacity_of p ≤ f.store.capacity
+  pub wires : capacity_of p ≤ f.places.capacity
+  pub sizes : f.sizes ≡ sizes_of p
   pub turns : event_total p ≤ room
   pub halt : MayHalt p schedule h

@@ -2,3 +2,4 @@ pub mod Facts
 pub mod Views
 pub mod Tries
 pub mod Keeps
+pub mod Halting

@@ -19,7 +19,7 @@ use Rattle.qm_proto.specs.declared.Row.{Row}
 use Rattle.qm_proto.specs.Model.Rows.{letter_checks}
 use Rattle.qm_proto.specs.Model.Runs.{FirstFails, NoneFails, next_tables, next_letters}
 use Rattle.qm_proto.specs.Model.May.{AllMayCheck}
-use Rattle.qm_machine.specs.Facts.{Facts, Can, Did, IsSound, is_pauli}
+use Rattle.qm_machine.specs.Facts.{Facts, Can, Did, IsSound, is_pauli, sizes_of}
 
 -- no test fails, for whichever circuit the store stands
 abbrev pub Passes : Facts → List Check → Type 0
@@ -105,7 +105,8 @@ pub record Advanced (p : Programs) (f : Facts) (r : ℕ) (g : Facts) : Type 0 wh
   pub tables : g.tables ≡ next_tables p f.tables r
   pub stands : (c : Circuit) → StandsFor f.store c → StandsFor g.store (c ++ next_letters p f.tables r)
   pub sound : IsSound g
-  pub capacity : g.store.capacity ≡ f.store.capacity
+  pub capacity : g.places.capacity ≡ f.places.capacity
+  pub sizes : g.sizes ≡ f.sizes
   pub parcels : g.parcels ≡ f.parcels
   pub ranks : g.ranks ≡ f.ranks
   pub letters : g.letters ≡ f.letters + length (next_letters p f.tables r)
@@ -124,18 +125,21 @@ pub record IsRank (p : Programs) (f : Facts) (r : ℕ) : Type 0 where
   pub known : r < length p.ranks
   pub same : f.ranks ≡ length p.ranks
 
--- the programs are ready, and the body has as many ranks
+-- the programs are ready, and the body has as many ranks, with buffers of their sizes
 pub record AreRanks (p : Programs) (f : Facts) : Type 0 where
   pub ready : IsReady p
   pub same : f.ranks ≡ length p.ranks
+  pub sizes : f.sizes ≡ sizes_of p
 
--- r is one of the ranks of ready programs, of which the body has as many
+-- r is one of the ranks of ready programs, of which the body has as many, with buffers of their sizes
 pub record IsReadyRank (p : Programs) (f : Facts) (r : ℕ) : Type 0 where
   pub ready : IsReady p
   pub known : r < length p.ranks
   pub same : f.ranks ≡ length p.ranks
+  pub sizes : f.sizes ≡ sizes_of p
 
--- the rank that a rule asks about is one of the programs', of which the body has as many
+-- the rank that a rule asks about is one of the programs', of which the body has as many, with buffers of their sizes
 pub record IsRuleRead (p : Programs) (f : Facts) (rule : Rule) : Type 0 where
   pub known : IsRuleKnown (length p.ranks) rule
   pub same : f.ranks ≡ length p.ranks
+  pub sizes : f.sizes ≡ sizes_of p

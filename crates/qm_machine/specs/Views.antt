@@ -1,33 +1,26 @@
 -- What the parts of a machine mean
-use Rattle.std.specs.Prelude.{ℕ, ◌+◌, ◌-◌, ◌*◌, Bool, true, false, List, [], ◌∷◌, Option, Some, None, slice_get, slice_index_or, option_to_list, length, if◌then◌else◌}
+use Rattle.std.specs.Prelude.{ℕ, ◌+◌, ◌*◌, Bool, List, [], ◌∷◌, Option, Some, None, map, slice_get, length, if◌then◌else◌}
 use Rattle.qm_denot.specs.declared.Wire.{Wire}
-use Rattle.qm_denot.specs.Wires.{Wires, no_wires, put}
+use Rattle.qm_denot.specs.Wires.{Wires}
 use Rattle.qm_denot.specs.WireLists.{wires_of}
 use Rattle.qm_denot.specs.Stores.{Store}
 use Rattle.qm_instr.specs.declared.Lane.{Lane}
 use Rattle.qm_instr.specs.Programs.{idle_rank}
+use Rattle.qm_buffers.specs.declared.Buffer.{Buffer}
+use Rattle.qm_buffers.specs.Halves.{buffer_at}
+use Rattle.qm_owner.specs.declared.Place.{Place}
+use Rattle.qm_owner.specs.declared.Place.TheVariants.{Slot, Near, Far}
+use Rattle.qm_owner.specs.Places.{wire_at, wires_at}
 use Rattle.qm_mail.specs.Mails.{Line, parcels_on, sends_on}
 use Rattle.qm_denot.specs.declared.Parcel.{Parcel}
-use Rattle.qm_proto.specs.Model.State.{Part, Tables, with_at, with_lane}
+use Rattle.qm_proto.specs.Model.State.{Part, Tables, with_lane}
 use Rattle.qm_proto.specs.declared.Act.{Act}
-use Rattle.qm_proto.specs.Model.Acts.{counted}
 use Rattle.qm_proto.specs.Model.Schedules.{part_at_start}
 use Rattle.qm_machine.specs.declared.body.Body.{Body}
 use Rattle.qm_machine.specs.declared.rank.Rank.{Rank}
 use Rattle.qm_machine.specs.Facts.{Facts, Can, Did}
 
--- one rank: its part of the tables, the wires in its slots, its halves, and how many these are
-pub record RankView : Type 0 where
-  pub part : Part
-  pub slots : ℕ → Option Wire
-  pub near : Wires
-  pub far : Wires
-  pub held : ℕ
-
--- the wires in slots as a function
-abbrev pub slot_in : List (Option Wire) → ℕ → Option Wire
-slot_in slots q = slice_index_or slots q None
-
+-- ---- the ranks
 -- a rank's part of the tables
 abbrev pub part_of : Rank → Part
 part_of x =
@@ -42,68 +35,47 @@ part_of x =
       first = x.first;
     }
 
-abbrev pub view_of : Rank → RankView
-view_of x =
-    let near = option_to_list x.near in
-    record {
-      part = part_of x;
-      slots = slot_in x.slots;
-      near = wires_of near;
-      far = wires_of x.far.items;
-      held = length near + length x.far.items;
-    }
-
--- what stands for a rank that there isn't
-abbrev pub idle_view : RankView
-idle_view = record { part = part_at_start idle_rank; slots = λ q. None; near = no_wires; far = no_wires; held = 0 }
-
 -- a rank with these tapes before its first event
-abbrev pub view_with : List Bool → List Bool → RankView
-view_with own protocol = record idle_view { part = part_at_start (record idle_rank { own = own; protocol = protocol }) }
+abbrev pub part_with : List Bool → List Bool → Part
+part_with own protocol = part_at_start (record idle_rank { own = own; protocol = protocol })
 
-abbrev pub view_in : Option Rank → RankView
-view_in None = idle_view
-view_in (Some x) = view_of x
+-- what stands for a rank that there isn't is one that does nothing
+abbrev pub part_in : Option Rank → Part
+part_in None = part_at_start idle_rank
+part_in (Some x) = part_of x
 
 -- a rank of a list
-abbrev pub view_at : List Rank → ℕ → RankView
-view_at ranks r = view_in (slice_get ranks r)
-
--- a rank with its slot q filled, or emptied
-abbrev pub with_slot_of : RankView → ℕ → Option Wire → RankView
-with_slot_of x q w = record x { slots = with_at x.slots q w }
-
--- what the acts make of a rank: a fresh wire in a slot, a near half kept, a far half kept, the near half dropped, a slot emptied, a far half
--- dropped, a far half settled in a slot, and another part
-abbrev pub fresh_view : ℕ → Wire → RankView → RankView
-fresh_view q w x = record (with_slot_of x q (Some w)) { part = counted x.part }
-
-abbrev pub near_view : Wire → RankView → RankView
-near_view e x = record x { part = counted x.part; near = put x.near e true; held = x.held + 1 }
-
-abbrev pub far_view : Wire → RankView → RankView
-far_view f x = record x { far = put x.far f true; held = x.held + 1 }
-
-abbrev pub dropped_view : Wire → RankView → RankView
-dropped_view e x = record x { near = put x.near e false; held = x.held - 1 }
-
-abbrev pub emptied_view : ℕ → RankView → RankView
-emptied_view q x = with_slot_of x q None
-
-abbrev pub far_dropped_view : Wire → RankView → RankView
-far_dropped_view f x = record x { far = put x.far f false; held = x.held - 1 }
-
-abbrev pub settled_view : Wire → ℕ → RankView → RankView
-settled_view f q x = record (with_slot_of x q (Some f)) { far = put x.far f false; held = x.held - 1 }
-
-abbrev pub part_view : (Part → Part) → RankView → RankView
-part_view change x = record x { part = change x.part }
+abbrev pub part_at : List Rank → ℕ → Part
+part_at ranks r = part_in (slice_get ranks r)
 
 -- the number whose binary digits are the bits, the lowest first
 abbrev pub number_of_bits : List Bool → ℕ
 number_of_bits [] = 0
 number_of_bits (b ∷ bs) = (if b then 1 else 0) + 2 * number_of_bits bs
 
+-- ---- the places
+-- the wire in a rank's slot
+abbrev pub slots_in : List (Wire × Place) → ℕ → ℕ → Option Wire
+slots_in placed r q = wire_at placed (Slot r q)
+
+-- a rank's near halves
+abbrev pub near_in : List (Wire × Place) → ℕ → Wires
+near_in placed r = wires_of (wires_at placed (Near r))
+
+-- its far halves
+abbrev pub far_in : List (Wire × Place) → ℕ → Wires
+far_in placed r = wires_of (wires_at placed (Far r))
+
+-- ---- the buffers
+-- how many halves a rank holds
+abbrev pub held_in : List Buffer → ℕ → ℕ
+held_in buffers r = (buffer_at buffers r).held
+
+-- how many each rank may hold
+abbrev pub sizes_in : List Buffer → List ℕ
+sizes_in buffers = map (λ b. b.size) buffers
+
+-- ---- the mail
 -- the parcels of each lane, the front one first, and how many a lane has room for
 pub record MailView : Type 0 where
   pub lanes : Lane → List Parcel
@@ -116,28 +88,27 @@ mail_of m = record { lanes = λ a. parcels_on m a; parcels = λ a. sends_on m a 
 abbrev pub with_mail : MailView → Lane → List Parcel → MailView
 with_mail m a xs = record m { lanes = with_lane m.lanes a xs }
 
--- the tables that ranks and mail mean
-abbrev pub tables_of : List Rank → MailView → Tables
-tables_of ranks m =
+-- ---- the body
+-- the tables that ranks, places, buffers and mail mean
+abbrev pub tables_of : List Rank → List (Wire × Place) → List Buffer → MailView → Tables
+tables_of ranks placed buffers m =
     record {
-      parts = λ r. (view_at ranks r).part;
-      slots = λ r. (view_at ranks r).slots;
-      near = λ r. (view_at ranks r).near;
-      far = λ r. (view_at ranks r).far;
-      held = λ r. (view_at ranks r).held;
+      parts = part_at ranks;
+      slots = slots_in placed;
+      near = near_in placed;
+      far = far_in placed;
+      held = held_in buffers;
       lanes = m.lanes;
     }
-
--- a rank as the tables show it
-abbrev pub rank_view : Tables → ℕ → RankView
-rank_view t r = record { part = t.parts r; slots = t.slots r; near = t.near r; far = t.far r; held = t.held r }
 
 -- what a body means, by what its store contains
 unfoldable pub facts : {A : Type 0} → (A → Store) → Body A → Facts
 facts store b =
     record {
-      tables = tables_of b.ranks.items (mail_of b.mail);
+      tables = tables_of b.ranks.items b.places.placed b.halves (mail_of b.mail);
       store = store b.amps;
+      places = b.places;
+      sizes = sizes_in b.halves;
       parcels = (mail_of b.mail).parcels;
       ranks = length b.ranks.items;
       letters = b.letters;

@@ -59,7 +59,10 @@ fn do_sure<A: Amps>(body: &mut Body<A>, rank: u16, act: Act)
     requires sure { is_sure act ≡ true }
     ensures { Did (facts A.store body.old) rank (act ∷ []) (facts A.store body.new) }
 {
-    let _ = body.act(rank, act);
+    match body.act(rank, act) {
+        Ok(()) => {}
+        Err(_) => unreachable!(),
+    }
 }
 
 /// Does the acts of a line, one after another. `Overflow` comes exactly where the only one is a `Had` that leaves the range; nothing is

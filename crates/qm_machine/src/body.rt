@@ -1,5 +1,5 @@
-//! The body of a machine: its ranks, its mail and its store, and one method for each act.
-ghost use Rattle.std.specs.Prelude.{◌≡◌, ℕ, ◌<◌, ◌+◌, ◌^◌, ◌↔◌, true, [], ◌∷◌, ◌++◌, length, OnOk, OnErr, IsErr, IfOk, nat_eq};
+//! The body of a machine: its ranks, places, buffers, mail and store, and one method for each act.
+ghost use Rattle.std.specs.Prelude.{◌≡◌, ℕ, ◌<◌, ◌≤◌, ◌+◌, ◌^◌, ◌↔◌, true, ◌||◌, [], ◌∷◌, ◌++◌, length, OnOk, OnErr, IsErr, IfOk, nat_eq, nat_lt};
 ghost use Rattle.qm_denot.specs.Circuits.{Circuit};
 ghost use Rattle.qm_denot.specs.Parcels.{IsFillable};
 ghost use Rattle.qm_denot.specs.Stores.{StandsFor, Overflows, MayGrow, MayApply, live_after};
@@ -7,14 +7,16 @@ ghost use Rattle.qm_instr.specs.Programs.{IsInRange};
 ghost use Rattle.qm_proto.specs.Model.State.{far_made, near_last, bit_of, own_next, protocol_next, front};
 ghost use Rattle.qm_proto.specs.declared.Act.TheVariants.{Fresh, Twin, Apply, SlotOut, NearOut, FarOut, Settle, Posts, Fills, Receives, OwnUsed, ProtocolUsed, FirstKept, BitSet};
 ghost use Rattle.qm_proto.specs.Model.Runs.{halves};
-ghost use Rattle.qm_machine.specs.Facts.{moved, is_pauli, IsAtStart};
+ghost use Rattle.qm_machine.specs.Facts.{moved, is_pauli, size_at, sizes_of, IsAtStart};
 ghost use Rattle.qm_machine.specs.Tries.{MayGrowBy, AllOverflow};
 
 use crate::rank::Rank;
+use qm_buffers::Halves;
 use qm_check::Ready;
 use qm_denot::{Amps, Letter, Overflow, Wire};
-use qm_instr::Lane;
+use qm_instr::{Input, Lane};
 use qm_mail::Mail;
+use qm_owner::{Place, Places};
 use qm_proto::{Act, Parcel};
 use std::alloc::{AllocError, Global};
 
@@ -24,10 +26,12 @@ const NO_PARCEL: Parcel = Parcel {
     bits: None,
 };
 
-/// Ranks, mail and store.
+/// Ranks, the places of their wires, how many halves each holds, mail and store.
 #[derive(Drop)]
 pub(crate) struct Body<A: Amps> {
     ranks: Vec<Rank>,
+    places: Places,
+    halves: Halves,
     mail: Mail,
     amps: A,
     letters: u64,
@@ -41,8 +45,19 @@ fn is_pauli(letter: Letter) -> bool
     matches!(letter, Letter::Flip { .. } | Letter::Phase { k: 4, .. })
 }
 
+/// The sizes of the ranks' buffers, in the order of their numbers. `AllocError` comes from the allocator alone.
+fn buffer_sizes(alloc: Global, input: &Input) -> Result<Vec<u8>, AllocError>
+    ensures { IfOk result (λ v. v.items ≡ sizes_of input.now) }
+{
+    let mut sizes = Vec::with_capacity(alloc, usize::from(input.ranks()))?;
+    for rank in 0..input.ranks() {
+        sizes.push_reserved(input.buffer(rank));
+    }
+    Ok(sizes)
+}
+
 impl<A: Amps> Body<A> {
-    ghost use Rattle.qm_machine.specs.Views.{facts, MayAct, Acted, view_of, rank_view, number_of_bits};
+    ghost use Rattle.qm_machine.specs.Views.{facts, MayAct, Acted, part_of, number_of_bits};
 
     /// The body of ready programs before their first event. All its memory is taken here; `AllocError` comes from the allocator alone.
     pub(crate) fn start(alloc: Global, ready: &Ready, amps: A) -> Result<Body<A>, AllocError>
@@ -56,8 +71,11 @@ impl<A: Amps> Body<A> {
         for rank in 0..input.ranks() {
             ranks.push_reserved(Rank::start(alloc, input.own(rank), input.protocol(rank))?);
         }
+        let sizes = buffer_sizes(alloc, input)?;
         Ok(Body {
             ranks,
+            places: Places::start(alloc, input.ranks(), ready.capacity())?,
+            halves: Halves::start(&sizes),
             mail: Mail::start(alloc, ready.lanes())?,
             amps,
             letters: 0,
@@ -92,7 +110,7 @@ impl<A: Amps> Body<A> {
     /// A rank.
     fn rank(&self, rank: u16) -> &Rank
         requires { rank < (facts A.store self.now).ranks }
-        ensures { view_of result.now ≡ rank_view (facts A.store self.now).tables rank }
+        ensures { part_of result.now ≡ (facts A.store self.now).tables.parts rank }
     {
         &self.ranks[usize::from(rank)]
     }
@@ -178,19 +196,29 @@ impl<A: Amps> Body<A> {
     }
 
     /// The wire in a rank's slot, where it is full.
+    #[tactic(auto, unfolding(crate::specs::Views::facts))]
     pub(crate) fn slot(&self, rank: u16, q: u8) -> Option<Wire>
-        requires { rank < (facts A.store self.now).ranks }
         ensures { result ≡ (facts A.store self.now).tables.slots rank q }
     {
-        self.rank(rank).slot(q)
+        self.places.slot(rank, q)
     }
 
-    /// How many halves a rank holds.
-    pub(crate) fn halves(&self, rank: u16) -> usize
-        requires { rank < (facts A.store self.now).ranks }
-        ensures { result ≡ halves (facts A.store self.now).tables rank }
+    /// How many halves a rank holds, at most the size of its buffer.
+    pub(crate) fn halves(&self, rank: u16) -> u32
+        requires { rank < length (facts A.store self.now).sizes }
+        ensures count { result ≡ halves (facts A.store self.now).tables rank }
+        ensures within { result ≤ size_at (facts A.store self.now).sizes rank }
     {
-        self.rank(rank).halves()
+        self.halves.halves(rank)
+    }
+
+    /// Whether a pair may be prepared for a receiver: where its half is wanted, or where one half more leaves the receiver's buffer
+    /// another place.
+    pub(crate) fn may_pair(&self, to: u16, wanted: bool) -> bool
+        requires { to < length (facts A.store self.now).sizes }
+        ensures { let f = facts A.store self.now in result ≡ (nat_lt (halves f.tables to + 1) (size_at f.sizes to) || wanted) }
+    {
+        self.halves.may_pair(to, wanted)
     }
 
     /// A rank's classical bits as a number, bit 0 the lowest.
@@ -228,7 +256,8 @@ impl<A: Amps> Body<A> {
     {
         let w = self.far_made(rank);
         self.amps.fresh(w);
-        self.ranks[usize::from(rank)].fresh(q, w);
+        self.places.put(w, Place::Slot { rank, q });
+        self.ranks[usize::from(rank)].count_wire();
     }
 
     /// Prepares an EPR pair: the near half at a rank, the far half at another.
@@ -241,8 +270,11 @@ impl<A: Amps> Body<A> {
         let f = self.far_made(rank);
         let e = Wire { near: true, ..f };
         do_letter(&mut self.amps, Letter::Pair { a: e, b: f });
-        self.ranks[usize::from(to)].keep_far(f);
-        self.ranks[usize::from(rank)].keep_near(e);
+        self.places.put(e, Place::Near { rank });
+        self.places.put(f, Place::Far { rank: to });
+        self.halves.add(rank);
+        self.halves.add(to);
+        self.ranks[usize::from(rank)].count_wire();
         self.letters += 1;
     }
 
@@ -273,7 +305,8 @@ impl<A: Amps> Body<A> {
     {
         let w = self.near_last(rank);
         do_letter(&mut self.amps, Letter::Take { w, m });
-        self.ranks[usize::from(rank)].drop_near();
+        self.places.take(w);
+        self.halves.drop_half(rank);
         self.letters += 1;
     }
 
@@ -285,7 +318,7 @@ impl<A: Amps> Body<A> {
     {
         if let Some(w) = self.slot(rank, q) {
             do_letter(&mut self.amps, Letter::Take { w, m });
-            self.ranks[usize::from(rank)].empty_slot(q);
+            self.places.take(w);
             self.letters += 1;
         }
     }
@@ -297,7 +330,8 @@ impl<A: Amps> Body<A> {
         ensures { Acted A.store self.old rank (FarOut f m) self.new }
     {
         do_letter(&mut self.amps, Letter::Take { w: f, m });
-        self.ranks[usize::from(rank)].drop_far(f);
+        self.places.take(f);
+        self.halves.drop_half(rank);
         self.letters += 1;
     }
 
@@ -306,7 +340,8 @@ impl<A: Amps> Body<A> {
         requires { MayAct A.store self.old rank (Settle f q) }
         ensures { Acted A.store self.old rank (Settle f q) self.new }
     {
-        self.ranks[usize::from(rank)].settle(f, q);
+        self.places.shift(f, Place::Slot { rank, q });
+        self.halves.drop_half(rank);
     }
 
     /// Puts a parcel at a lane's end.
@@ -414,5 +449,8 @@ fn do_letter<A: Amps>(amps: &mut A, letter: Letter)
     ensures live { (A.store amps.new).live ≡ live_after letter (A.store amps.old).live }
     ensures capacity { (A.store amps.new).capacity ≡ (A.store amps.old).capacity }
 {
-    let _ = amps.apply(letter);
+    match amps.apply(letter) {
+        Ok(()) => {}
+        Err(_) => unreachable!(),
+    }
 }

@@ -17,9 +17,13 @@ pub use machine::Machine;
 pub use qm_proto::Cause;
 
 #[cfg(test)]
-mod runs;
+mod fixtures;
 #[cfg(test)]
-mod stuck;
+mod halts;
+#[cfg(test)]
+mod instructions;
+#[cfg(test)]
+mod runs;
 #[cfg(test)]
 mod tests;
 

@@ -4,8 +4,9 @@ ghost use Rattle.qm_denot.specs.Stores.{StandsFor};
 ghost use Rattle.qm_instr.specs.Programs.{rank_of};
 ghost use Rattle.qm_check.specs.Checks.{capacity_of};
 ghost use Rattle.qm_proto.specs.Model.Runs.{halves};
-ghost use Rattle.qm_proto.specs.Model.Schedules.{AllEnded};
+ghost use Rattle.qm_proto.specs.Model.Schedules.{AllEnded, RendezvousEnds};
 ghost use Rattle.qm_machine.specs.Facts.{is_pauli};
+ghost use Rattle.qm_machine.specs.Halting.{HaltsFor, HasSmallExponent, IsAtMeasure};
 ghost use Rattle.qm_machine.specs.Keeps.{Keeps, StepIs, StateIs, HaltsAt, HasLeft, MayGo, MustWait, halt_of, state_of};
 ghost use Rattle.qm_machine.specs.Views.{number_of_bits};
 
@@ -117,11 +118,17 @@ impl<A: Amps> Machine<A> {
     /// `Blocked` where its next event is not enabled and the state is not stuck. `Halted`, which is new then and stays, where the state is
     /// stuck or the event is refused. Else the event is done, and the schedule has the rank at its end. Every other answer leaves the
     /// schedule and the state as they were. No step takes memory.
+    ///
+    /// The machine isn't halted for `Overflow` while the store's exponent is at most 252 more than the number of protocol measurements
+    /// done, nor for `Impossible` but at a `measure`, nor for `Stuck` where the rendezvous run of its programs ends.
     pub fn step(&mut self, rank: u32) -> Step
         requires able { A.able }
         requires known { rank < length self.old.programs.ranks }
         ensures programs { self.new.programs ≡ self.old.programs }
         ensures step { StepIs A.store self.old rank result self.new }
+        ensures overflow { HasSmallExponent A.store self.old → ¬ (HaltsFor self.old self.new Cause.Overflow) }
+        ensures impossible { HaltsFor self.old self.new Cause.Impossible → IsAtMeasure self.old rank }
+        ensures stuck { RendezvousEnds self.old.programs → ¬ (HaltsFor self.old self.new Cause.Stuck) }
     {
         if self.halted.is_some() {
             return Step::Halted;
@@ -209,7 +216,7 @@ impl<A: Amps> Machine<A> {
         ensures value { result ≡ halves (state_of self.now).tables rank }
         ensures few { result ≤ (rank_of self.now.programs rank).buffer }
     {
-        self.body.halves(rank as u16) as u32
+        self.body.halves(rank as u16)
     }
 
     /// How many letters the circuit of the replay has.

@@ -1,8 +1,7 @@
 //! Which rank has an event left, which is enabled, and what one lacks that isn't.
-ghost use Rattle.std.specs.Prelude.{◌≡◌, ◌<◌, ◌+◌, nat_lt, true, false, Some, None};
-ghost use Rattle.qm_instr.specs.Programs.{rank_of};
+ghost use Rattle.std.specs.Prelude.{◌≡◌, ◌<◌, true, false, Some, None};
 ghost use Rattle.qm_proto.specs.Model.Rows.{current};
-ghost use Rattle.qm_proto.specs.Model.Runs.{holds, halves, is_wanted, receives_on, enabled, has_event, events_at};
+ghost use Rattle.qm_proto.specs.Model.Runs.{holds, is_wanted, receives_on, enabled, has_event, events_at};
 ghost use Rattle.qm_proto.specs.Model.Schedules.{IsLowestLeft, NoneEnabled};
 ghost use Rattle.qm_machine.specs.Keeps.{lacking};
 ghost use Rattle.qm_machine.specs.Tries.{IsRank, IsReadyRank, AreRanks, IsRuleRead};
@@ -63,12 +62,12 @@ pub(crate) fn unless<T: Drop>(holds: bool, lacking: T) -> Option<T>
     if holds { None } else { Some(lacking) }
 }
 
-/// Whether a rank's buffer has room for one more half beside the place that is kept for a half that it wants.
-fn has_room<A: Amps>(input: &Input, body: &Body<A>, rank: u16) -> bool
-    requires { IsRank input.now (facts A.store body.now) rank }
-    ensures { result ≡ nat_lt (halves (facts A.store body.now).tables rank + 1) (rank_of input.now rank).buffer }
+/// Whether a pair may be prepared for a lane's receiver.
+fn may_pair<A: Amps>(input: &Input, body: &Body<A>, lane: Lane) -> bool
+    requires { IsRuleRead input.now (facts A.store body.now) (Rule.PairRoom lane) }
+    ensures { result ≡ holds input.now (facts A.store body.now).tables (Rule.PairRoom lane) }
 {
-    body.halves(rank).saturating_add(1) < usize::from(input.buffer(rank))
+    body.may_pair(lane.to, is_wanted(input, body, lane))
 }
 
 /// What a rank lacks whose next event has this rule. `None` exactly where the rule holds.
@@ -79,10 +78,7 @@ pub(crate) fn lacks<A: Amps>(input: &Input, body: &Body<A>, rule: Rule) -> Optio
 {
     match rule {
         Rule::Always => None,
-        Rule::PairRoom { lane } => unless(
-            has_room(input, body, lane.to) || is_wanted(input, body, lane),
-            Why::NoRoom,
-        ),
+        Rule::PairRoom { lane } => unless(may_pair(input, body, lane), Why::NoRoom),
         Rule::Engaged { lane } => unless(is_wanted(input, body, lane), Why::PartnerElsewhere),
         Rule::Filled { lane } => unless(body.front(lane).bits.is_some(), Why::LaneEmpty),
     }

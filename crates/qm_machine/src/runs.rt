@@ -1,565 +1,390 @@
-//! Runs of every instruction on the machine, whose events and states were worked out elsewhere.
-ghost use Rattle.std.specs.Prelude.{◌≡◌, ◌<◌, ◌≤◌, ◌↔◌, length, IsTrue, IfOk, Contains};
-
-use crate::{Cause, Halt, Machine, State, Step};
-use qm_check::check;
-use qm_denot::{Amps, PlainAmps, Wire};
-use qm_instr::{Gate, Input, Instr, OneGate};
+//! Messages by every outcome, gates, and measurements on the machine. The events and the numbers were worked out elsewhere.
+use crate::fixtures::{
+    EIGHTH, NARROW, NONE, ONE, QUARTER, SMALL, Sizes, THREE_EIGHTHS, bits, blocked, did, follow,
+    follow_to_end, machine_of, numerators, numerators_of, programs, run,
+};
+use crate::instructions::{
+    ALLOC, ALLOC_NEXT, COPY_FROM, COPY_NEXT_FROM, COPY_NEXT_TO, COPY_TO, CROSS, FLIP, FREE_NEXT,
+    HAD, HAD_NEXT, HALF_TURN, HALF_TURN_NEXT, MOVE_FROM, MOVE_TO, REACH_FROM, REACH_TO, TURN,
+    TURN_NEXT, UNDO_FROM, UNDO_NEXT_FROM, UNDO_NEXT_TO, UNDO_TO,
+};
+use crate::{Machine, State, Why};
+use qm_denot::{Amps, PlainAmps};
+use qm_instr::{Gate, Instr, OneGate};
 use qm_proto::Event;
-use qm_zomega::Zw;
-use std::alloc::{AllocError, Global};
+use std::alloc::Global;
 use std::process::Abort;
 use std::test::Fail;
 
-const ALLOC: Instr = Instr::Alloc { q: 0 };
+/// Both outcomes, of two measurements.
+const OUTCOMES: [(bool, bool); 4] = [(false, false), (false, true), (true, false), (true, true)];
 
-const HAD: Instr = Instr::Do {
-    g: Gate::One {
-        g: OneGate::H,
-        q: 0,
-    },
+/// Two ranks of two qubits.
+const WIDE: Sizes = Sizes { qubits: 2, ..SMALL };
+
+/// Rank 0 moves a turned qubit to rank 1.
+const MOVE: [(u16, Instr); 5] = [
+    (0, ALLOC),
+    (0, HAD),
+    (0, TURN),
+    (0, MOVE_TO),
+    (1, MOVE_FROM),
+];
+
+const MOVE_STEPS: [(u32, Event); 11] = [
+    (0, Event::Alloc),
+    (0, Event::Gate),
+    (0, Event::Gate),
+    (0, Event::Pair),
+    (0, Event::Cross),
+    (0, Event::Had),
+    (0, Event::Near),
+    (0, Event::Post),
+    (1, Event::Deliver),
+    (1, Event::FixX),
+    (1, Event::FixZ),
+];
+
+#[test]
+fn moves_a_qubit_by_every_outcome(rt: HostRuntime) -> Result<(), Fail> {
+    for (first, second) in OUTCOMES {
+        let outcomes = [(0, first), (0, second)];
+        let input = programs(&rt, rt.alloc(), SMALL, &MOVE, &[], &outcomes)?;
+        let mut machine = machine_of(&rt, rt.alloc(), input)?;
+        follow_to_end(&rt, &mut machine, &MOVE_STEPS);
+        assert_eq!(rt; machine.paulis(), u64::from(first) + u64::from(second));
+        assert_eq!(rt; machine.slot(0, 0), None);
+        let moved = machine.slot(1, 0).expect(&rt, "a qubit that came");
+        assert_eq!(rt;
+            (machine.amps().live().len(), machine.amps().exponent()),
+            (1, 3)
+        );
+        assert_eq!(rt; numerators_of(machine.amps(), moved), Some([ONE, EIGHTH]));
+    }
+    Ok(())
+}
+
+/// Rank 0 lends a copy of a turned qubit to rank 1, which turns it and gives it back.
+const UNDO: [(u16, Instr); 8] = [
+    (0, ALLOC),
+    (0, HAD),
+    (0, TURN),
+    (0, COPY_TO),
+    (0, UNDO_FROM),
+    (1, COPY_FROM),
+    (1, HALF_TURN),
+    (1, UNDO_TO),
+];
+
+const UNDO_STEPS: [(u32, Event); 13] = [
+    (0, Event::Alloc),
+    (0, Event::Gate),
+    (0, Event::Gate),
+    (0, Event::Pair),
+    (0, Event::Cross),
+    (0, Event::Post),
+    (1, Event::Deliver),
+    (1, Event::FixX),
+    (1, Event::Gate),
+    (1, Event::Test),
+    (1, Event::Post),
+    (0, Event::Deliver),
+    (0, Event::FixZ),
+];
+
+#[test]
+fn gives_a_copy_back_by_every_outcome(rt: HostRuntime) -> Result<(), Fail> {
+    for (first, second) in OUTCOMES {
+        let outcomes = [(0, first), (1, second)];
+        let input = programs(&rt, rt.alloc(), SMALL, &UNDO, &[], &outcomes)?;
+        let mut machine = machine_of(&rt, rt.alloc(), input)?;
+        follow_to_end(&rt, &mut machine, &UNDO_STEPS);
+        assert_eq!(rt; machine.paulis(), u64::from(first) + u64::from(second));
+        assert_eq!(rt; machine.slot(1, 0), None);
+        let source = machine.slot(0, 0).expect(&rt, "the source");
+        assert_eq!(rt;
+            (machine.amps().live().len(), machine.amps().exponent()),
+            (1, 3)
+        );
+        assert_eq!(rt;
+            numerators_of(machine.amps(), source),
+            Some([ONE, THREE_EIGHTHS])
+        );
+    }
+    Ok(())
+}
+
+/// Rank 0's qubit controls a flip of rank 1's.
+const REACH: [(u16, Instr); 10] = [
+    (0, ALLOC),
+    (0, HAD),
+    (0, HALF_TURN),
+    (0, REACH_TO),
+    (0, HAD),
+    (1, ALLOC),
+    (1, TURN),
+    (1, HAD),
+    (1, REACH_FROM),
+    (1, TURN),
+];
+
+const REACH_STEPS: [(u32, Event); 18] = [
+    (1, Event::Alloc),
+    (1, Event::Gate),
+    (1, Event::Gate),
+    (0, Event::Alloc),
+    (0, Event::Gate),
+    (0, Event::Gate),
+    (0, Event::Pair),
+    (0, Event::Cross),
+    (0, Event::Post),
+    (1, Event::Deliver),
+    (1, Event::FixX),
+    (1, Event::Cross),
+    (1, Event::Had),
+    (1, Event::Post),
+    (1, Event::Gate),
+    (0, Event::Deliver),
+    (0, Event::FixZ),
+    (0, Event::Gate),
+];
+
+#[test]
+fn reaches_a_target_by_every_outcome(rt: HostRuntime) -> Result<(), Fail> {
+    for (first, second) in OUTCOMES {
+        let outcomes = [(0, first), (1, second)];
+        let input = programs(&rt, rt.alloc(), SMALL, &REACH, &[], &outcomes)?;
+        let mut machine = machine_of(&rt, rt.alloc(), input)?;
+        follow_to_end(&rt, &mut machine, &REACH_STEPS);
+        let control = machine.slot(0, 0).expect(&rt, "the control");
+        let target = machine.slot(1, 0).expect(&rt, "the target");
+        assert_eq!(rt;
+            (machine.amps().live().len(), machine.amps().exponent()),
+            (2, 4)
+        );
+        let all = [EIGHTH, [0, 0, 0, -1], QUARTER, ONE];
+        assert_eq!(rt; numerators(machine.amps(), control, target), Some(all));
+    }
+    Ok(())
+}
+
+/// Rank 0 lends copies of two qubits to rank 1, which gives them back on one lane.
+const TWO_UNDOS: [(u16, Instr); 13] = [
+    (0, ALLOC),
+    (0, ALLOC_NEXT),
+    (0, HAD),
+    (0, HAD_NEXT),
+    (0, TURN_NEXT),
+    (0, COPY_TO),
+    (0, COPY_NEXT_TO),
+    (0, UNDO_FROM),
+    (0, UNDO_NEXT_FROM),
+    (1, COPY_FROM),
+    (1, COPY_NEXT_FROM),
+    (1, UNDO_TO),
+    (1, UNDO_NEXT_TO),
+];
+
+/// The events up to where both copies came.
+fn lend_two(rt: &impl Abort, alloc: Global) -> Result<Machine<PlainAmps>, Fail> {
+    let outcomes = [(0, true), (0, false), (1, false), (1, true)];
+    let input = programs(rt, alloc, WIDE, &TWO_UNDOS, &[], &outcomes)?;
+    let mut machine = machine_of(rt, alloc, input)?;
+    for event in [
+        Event::Alloc,
+        Event::Alloc,
+        Event::Gate,
+        Event::Gate,
+        Event::Gate,
+    ] {
+        follow(rt, &mut machine, &[(0, did(event))]);
+    }
+    for _ in 0..2u32 {
+        let copy = [
+            (0, did(Event::Pair)),
+            (0, did(Event::Cross)),
+            (0, did(Event::Post)),
+            (1, did(Event::Deliver)),
+            (1, did(Event::FixX)),
+        ];
+        follow(rt, &mut machine, &copy);
+    }
+    Ok(machine)
+}
+
+/// The second waits until the source of the first has taken it back.
+#[test]
+fn two_copies_are_given_back_one_by_one(rt: HostRuntime) -> Result<(), Fail> {
+    let elsewhere = blocked(Why::PartnerElsewhere);
+    let mut machine = lend_two(&rt, rt.alloc())?;
+    let first = [
+        (1, did(Event::Test)),
+        (1, did(Event::Post)),
+        (1, elsewhere),
+        (0, did(Event::Deliver)),
+        (1, elsewhere),
+        (0, did(Event::FixZ)),
+    ];
+    follow(&rt, &mut machine, &first);
+    assert_eq!(rt; run(&rt, &mut machine), State::AllEnded);
+    let kept = machine.slot(0, 0).expect(&rt, "a source");
+    let turned = machine.slot(0, 1).expect(&rt, "the other one");
+    assert_eq!(rt;
+        (machine.amps().live().len(), machine.amps().exponent()),
+        (2, 6)
+    );
+    let all = [ONE, ONE, EIGHTH, EIGHTH];
+    assert_eq!(rt; numerators(machine.amps(), kept, turned), Some(all));
+    Ok(())
+}
+
+/// The numerators of two turned qubits of one rank after this gate.
+fn gated(rt: &impl Abort, alloc: Global, gate: Gate) -> Result<Option<[[i128; 4]; 4]>, Fail> {
+    let instructions = [
+        (0, ALLOC),
+        (0, ALLOC_NEXT),
+        (0, HAD),
+        (0, TURN),
+        (0, HAD_NEXT),
+        (0, HALF_TURN_NEXT),
+        (0, Instr::Do { g: gate }),
+    ];
+    let input = programs(rt, alloc, NARROW, &instructions, &[], &[])?;
+    let mut machine = machine_of(rt, alloc, input)?;
+    assert_eq!(rt; run(rt, &mut machine), State::AllEnded);
+    let v = machine.slot(0, 0).expect(rt, "a qubit");
+    let w = machine.slot(0, 1).expect(rt, "the next one");
+    Ok(numerators(machine.amps(), v, w))
+}
+
+#[test]
+fn gates_on_two_qubits_know_which_is_which(rt: HostRuntime) -> Result<(), Fail> {
+    for (gate, all) in [
+        (
+            Gate::Cx { c: 0, t: 1 },
+            [ONE, THREE_EIGHTHS, QUARTER, EIGHTH],
+        ),
+        (
+            Gate::Cx { c: 1, t: 0 },
+            [ONE, EIGHTH, THREE_EIGHTHS, QUARTER],
+        ),
+        (
+            Gate::Cz { c: 0, t: 1 },
+            [ONE, EIGHTH, QUARTER, [0, 0, 0, -1]],
+        ),
+    ] {
+        assert_eq!(rt; gated(&rt, rt.alloc(), gate)?, Some(all));
+    }
+    Ok(())
+}
+
+/// A rank copies a turned qubit to its next one, measures it and gives the next one up.
+const MEASURED: [(u16, Instr); 6] = [
+    (0, ALLOC),
+    (0, HAD),
+    (0, ALLOC_NEXT),
+    (0, CROSS),
+    (0, Instr::Measure { q: 0, b: 0 }),
+    (0, FREE_NEXT),
+];
+
+#[test]
+fn a_qubit_that_is_zero_is_given_up(rt: HostRuntime) -> Result<(), Fail> {
+    let input = programs(&rt, rt.alloc(), NARROW, &MEASURED, &[(0, false)], &[])?;
+    let mut machine = machine_of(&rt, rt.alloc(), input)?;
+    assert_eq!(rt; run(&rt, &mut machine), State::AllEnded);
+    assert_eq!(rt; machine.slot(0, 1), None);
+    let measured = machine.slot(0, 0).expect(&rt, "what was measured");
+    assert_eq!(rt;
+        (machine.amps().live().len(), machine.amps().exponent()),
+        (1, 1)
+    );
+    assert_eq!(rt; numerators_of(machine.amps(), measured), Some([ONE, NONE]));
+    Ok(())
+}
+
+/// A gate of the next qubit where bit 3 is one.
+fn when(g: OneGate) -> Instr {
+    Instr::When {
+        b: 3,
+        g: Gate::One { g, q: 1 },
+    }
+}
+
+/// What a measured bit and its opposite do to another qubit.
+#[test]
+fn gates_depend_on_bits(rt: HostRuntime) -> Result<(), Fail> {
+    let opposite = Instr::Xor { b: 3, c: 4 };
+    let instructions = [
+        (0, ALLOC),
+        (0, HAD),
+        (0, Instr::Measure { q: 0, b: 3 }),
+        (0, ALLOC_NEXT),
+        (0, when(OneGate::H)),
+        (0, Instr::Set { b: 4, v: true }),
+        (0, opposite),
+        (0, when(OneGate::X)),
+        (0, opposite),
+    ];
+    for (outcome, found, exponent, all) in [
+        (false, 0x10, 1, [NONE, NONE, ONE, NONE]),
+        (true, 0x18, 2, [NONE, ONE, NONE, ONE]),
+    ] {
+        let input = programs(&rt, rt.alloc(), NARROW, &instructions, &[(0, outcome)], &[])?;
+        let mut machine = machine_of(&rt, rt.alloc(), input)?;
+        assert_eq!(rt; run(&rt, &mut machine), State::AllEnded);
+        assert_eq!(rt;
+            (bits(&rt, &machine, 0), machine.amps().exponent()),
+            (found, exponent)
+        );
+        let measured = machine.slot(0, 0).expect(&rt, "what was measured");
+        let next = machine.slot(0, 1).expect(&rt, "the next one");
+        assert_eq!(rt; numerators(machine.amps(), measured, next), Some(all));
+    }
+    Ok(())
+}
+
+const SEND_MEASURED: Instr = Instr::SendBit {
+    b: 0,
+    to: 1,
+    tag: 2,
 };
 
-const FLIP: Instr = Instr::Do {
+const RECEIVE_MEASURED: Instr = Instr::RecvBit {
+    b: 5,
+    from: 0,
+    tag: 2,
+};
+
+const FLIP_WHEN_SENT: Instr = Instr::When {
+    b: 5,
     g: Gate::One {
         g: OneGate::X,
         q: 0,
     },
 };
 
-const HALF_TURN: Instr = Instr::Do {
-    g: Gate::One {
-        g: OneGate::S,
-        q: 0,
-    },
-};
-
-const TURN: Instr = Instr::Do {
-    g: Gate::One {
-        g: OneGate::T,
-        q: 0,
-    },
-};
-
-/// Rank 0 moves a turned qubit to rank 1, by these outcomes.
-fn move_input(alloc: Global, first: bool, second: bool) -> Result<Input, AllocError> {
-    let mut input = Input::start(alloc, 1, 2)?;
-    input.push(0, ALLOC)?;
-    input.push(0, HAD)?;
-    input.push(0, TURN)?;
-    input.push(
-        0,
-        Instr::MoveTo {
-            q: 0,
-            to: 1,
-            tag: 7,
-        },
-    )?;
-    input.push_protocol(0, first)?;
-    input.push_protocol(0, second)?;
-    input.push(
-        1,
-        Instr::MoveFrom {
-            q: 0,
-            from: 0,
-            tag: 7,
-        },
-    )?;
-    Ok(input)
-}
-
-/// Rank 0 lends a copy of a turned qubit to rank 1, which turns it and gives it back.
-fn undo_input(alloc: Global, first: bool, second: bool) -> Result<Input, AllocError> {
-    let mut input = Input::start(alloc, 1, 2)?;
-    input.push(0, ALLOC)?;
-    input.push(0, HAD)?;
-    input.push(0, TURN)?;
-    input.push(
-        0,
-        Instr::CopyTo {
-            q: 0,
-            to: 1,
-            tag: 7,
-        },
-    )?;
-    input.push(
-        0,
-        Instr::UndoFrom {
-            q: 0,
-            from: 1,
-            tag: 8,
-        },
-    )?;
-    input.push_protocol(0, first)?;
-    input.push(
-        1,
-        Instr::CopyFrom {
-            q: 0,
-            from: 0,
-            tag: 7,
-        },
-    )?;
-    input.push(1, HALF_TURN)?;
-    input.push(
-        1,
-        Instr::UndoTo {
-            q: 0,
-            to: 0,
-            tag: 8,
-        },
-    )?;
-    input.push_protocol(1, second)?;
-    Ok(input)
-}
-
-/// Rank 0's qubit controls a flip of rank 1's.
-fn reach_input(alloc: Global, first: bool, second: bool) -> Result<Input, AllocError> {
-    let mut input = Input::start(alloc, 1, 2)?;
-    input.push(0, ALLOC)?;
-    input.push(0, HAD)?;
-    input.push(0, HALF_TURN)?;
-    input.push(
-        0,
-        Instr::ReachTo {
-            q: 0,
-            to: 1,
-            tag: 9,
-        },
-    )?;
-    input.push(0, HAD)?;
-    input.push_protocol(0, first)?;
-    input.push(1, ALLOC)?;
-    input.push(1, TURN)?;
-    input.push(1, HAD)?;
-    input.push(
-        1,
-        Instr::ReachFrom {
-            t: 0,
-            from: 0,
-            tag: 9,
-        },
-    )?;
-    input.push(1, TURN)?;
-    input.push_protocol(1, second)?;
-    Ok(input)
-}
-
 /// Rank 0 measures a qubit and sends the bit to rank 1, which flips a new qubit by it.
-fn bit_input(alloc: Global, outcome: bool) -> Result<Input, AllocError> {
-    let mut input = Input::start(alloc, 1, 2)?;
-    input.push(0, ALLOC)?;
-    input.push(0, HAD)?;
-    input.push(0, Instr::Measure { q: 0, b: 0 })?;
-    input.push(
-        0,
-        Instr::SendBit {
-            b: 0,
-            to: 1,
-            tag: 2,
-        },
-    )?;
-    input.push_own(0, outcome)?;
-    input.push(
-        1,
-        Instr::RecvBit {
-            b: 5,
-            from: 0,
-            tag: 2,
-        },
-    )?;
-    input.push(1, ALLOC)?;
-    input.push(
-        1,
-        Instr::When {
-            b: 5,
-            g: Gate::One {
-                g: OneGate::X,
-                q: 0,
-            },
-        },
-    )?;
-    Ok(input)
-}
-
-/// Two ranks exchange what they set.
-fn both_ways_input(alloc: Global) -> Result<Input, AllocError> {
-    let mut input = Input::start(alloc, 1, 2)?;
-    input.push(0, Instr::Set { b: 2, v: true })?;
-    input.push(
-        0,
-        Instr::SendBit {
-            b: 2,
-            to: 1,
-            tag: 5,
-        },
-    )?;
-    input.push(
-        0,
-        Instr::RecvBit {
-            b: 7,
-            from: 1,
-            tag: 6,
-        },
-    )?;
-    input.push(
-        1,
-        Instr::RecvBit {
-            b: 9,
-            from: 0,
-            tag: 5,
-        },
-    )?;
-    input.push(1, Instr::Xor { b: 1, c: 9 })?;
-    input.push(
-        1,
-        Instr::SendBit {
-            b: 1,
-            to: 0,
-            tag: 6,
-        },
-    )?;
-    Ok(input)
-}
-
-/// Rank 1 flips its copy before it gives it back.
-fn unequal_input(alloc: Global) -> Result<Input, AllocError> {
-    let mut input = Input::start(alloc, 1, 2)?;
-    input.push(0, ALLOC)?;
-    input.push(
-        0,
-        Instr::CopyTo {
-            q: 0,
-            to: 1,
-            tag: 1,
-        },
-    )?;
-    input.push(
-        0,
-        Instr::UndoFrom {
-            q: 0,
-            from: 1,
-            tag: 2,
-        },
-    )?;
-    input.push_protocol(0, false)?;
-    input.push(
-        1,
-        Instr::CopyFrom {
-            q: 0,
-            from: 0,
-            tag: 1,
-        },
-    )?;
-    input.push(1, FLIP)?;
-    input.push(
-        1,
-        Instr::UndoTo {
-            q: 0,
-            to: 0,
-            tag: 2,
-        },
-    )?;
-    input.push_protocol(1, false)?;
-    Ok(input)
-}
-
-/// A rank measures that a zero is one.
-fn impossible_input(alloc: Global) -> Result<Input, AllocError> {
-    let mut input = Input::start(alloc, 1, 1)?;
-    input.push(0, ALLOC)?;
-    input.push(0, Instr::Measure { q: 0, b: 0 })?;
-    input.push_own(0, true)?;
-    Ok(input)
-}
-
-/// A rank frees a one.
-fn one_freed_input(alloc: Global) -> Result<Input, AllocError> {
-    let mut input = Input::start(alloc, 1, 1)?;
-    input.push(0, ALLOC)?;
-    input.push(0, FLIP)?;
-    input.push(0, Instr::Free { q: 0 })?;
-    Ok(input)
-}
-
-/// The machine of these programs before its first event.
-fn machine_of(rt: &impl Abort, alloc: Global, input: Input) -> Result<Machine<PlainAmps>, Fail> {
-    let ready = check(alloc, input)?;
-    let capacity = ready.capacity();
-    assert!(rt; capacity <= 22, "a narrow store");
-    let amps = PlainAmps::start(alloc, capacity)?;
-    Ok(Machine::start(alloc, ready, amps)?)
-}
-
-/// Whether there is such a rank.
-fn is_rank<A: Amps>(machine: &Machine<A>, rank: u32) -> bool
-    ensures { IsTrue result ↔ (rank < length machine.now.programs.ranks) }
-{
-    rank < u32::from(machine.ready().input().ranks())
-}
-
-/// Steps the ranks in this order, each of which has this event, after which none has one left.
-fn follow<A: Amps>(rt: &impl Abort, machine: &mut Machine<A>, steps: &[(u32, Event)])
-    requires { A.able }
-{
-    for (rank, event) in steps {
-        assert!(rt; is_rank(machine, *rank), "there is a rank {rank}");
-        assert_eq!(rt;
-            machine.step(*rank),
-            Step::Did { event: *event },
-            "rank {rank}"
-        );
-    }
-    assert_eq!(rt; machine.state(), State::AllEnded);
-}
-
-/// One event of the lowest of two ranks that may have one.
-fn step_lowest<A: Amps>(rt: &impl Abort, machine: &mut Machine<A>, ranks: u32)
-    requires { A.able }
-{
-    for rank in 0..ranks {
-        assert!(rt; is_rank(machine, rank), "there is a rank {rank}");
-        if let Step::Did { .. } = machine.step(rank) {
-            return;
-        }
-    }
-}
-
-/// How the machine ends where the lowest rank that may have an event has it.
-fn run<A: Amps>(rt: &impl Abort, machine: &mut Machine<A>, ranks: u32) -> State
-    requires { A.able }
-{
-    for _ in 0..32u32 {
-        step_lowest(rt, machine, ranks);
-    }
-    machine.state()
-}
-
-/// Whether the wire is live.
-fn is_live<A: Amps>(amps: &A, w: Wire) -> bool
-    ensures { IsTrue result ↔ Contains (A.store amps.now).live w }
-{
-    amps.live().contains(&w)
-}
-
-/// A number's components.
-fn components(number: Zw) -> [i128; 4] {
-    [number.a, number.b, number.c, number.d]
-}
-
-/// The numerators where neither wire is one, where just the first is, where just the second is, and where both are; nothing unless both
-/// are live and differ.
-fn numerators<A: Amps>(amps: &A, v: Wire, w: Wire) -> Option<[[i128; 4]; 4]> {
-    if !is_live(amps, v) || !is_live(amps, w) || v == w {
-        return None;
-    }
-    Some([
-        components(amps.value(&[])),
-        components(amps.value(&[v])),
-        components(amps.value(&[w])),
-        components(amps.value(&[v, w])),
-    ])
-}
-
-/// The numerators where the wire is zero and where it is one; nothing unless it is live.
-fn numerators_of<A: Amps>(amps: &A, w: Wire) -> Option<[[i128; 4]; 2]> {
-    if !is_live(amps, w) {
-        return None;
-    }
-    Some([components(amps.value(&[])), components(amps.value(&[w]))])
-}
-
-/// What the machine leaves in a rank's slot 0.
-fn left<A: Amps>(rt: &impl Abort, machine: &Machine<A>, rank: u32) -> Option<Wire> {
-    assert!(rt; is_rank(machine, rank), "there is a rank {rank}");
-    assert_eq!(rt; machine.halves(rank), 0);
-    machine.slot(rank, 0)
-}
-
-/// A rank's classical bits.
-fn bits<A: Amps>(rt: &impl Abort, machine: &Machine<A>, rank: u32) -> u32 {
-    assert!(rt; is_rank(machine, rank), "there is a rank {rank}");
-    machine.bits(rank)
-}
-
-#[test]
-fn moves_a_qubit_by_every_outcome(rt: HostRuntime) -> Result<(), Fail> {
-    for (first, second, paulis) in [
-        (false, false, 0),
-        (false, true, 1),
-        (true, false, 1),
-        (true, true, 2),
-    ] {
-        let input = move_input(rt.alloc(), first, second)?;
-        let mut machine = machine_of(&rt, rt.alloc(), input)?;
-        follow(
-            &rt,
-            &mut machine,
-            &[
-                (0, Event::Alloc),
-                (0, Event::Gate),
-                (0, Event::Gate),
-                (0, Event::Pair),
-                (0, Event::Cross),
-                (0, Event::Had),
-                (0, Event::Near),
-                (0, Event::Post),
-                (1, Event::Deliver),
-                (1, Event::FixX),
-                (1, Event::FixZ),
-            ],
-        );
-        assert_eq!(rt; machine.paulis(), paulis);
-        assert_eq!(rt; left(&rt, &machine, 0), None);
-        let moved = left(&rt, &machine, 1).expect(&rt, "a qubit that came");
-        assert_eq!(rt; machine.amps().live().len(), 1);
-        assert_eq!(rt; machine.amps().exponent(), 3);
-        assert_eq!(rt;
-            numerators_of(machine.amps(), moved),
-            Some([[1, 0, 0, 0], [0, 1, 0, 0]])
-        );
-    }
-    Ok(())
-}
-
-#[test]
-fn gives_a_copy_back_by_every_outcome(rt: HostRuntime) -> Result<(), Fail> {
-    for (first, second) in [(false, false), (false, true), (true, false), (true, true)] {
-        let input = undo_input(rt.alloc(), first, second)?;
-        let mut machine = machine_of(&rt, rt.alloc(), input)?;
-        follow(
-            &rt,
-            &mut machine,
-            &[
-                (0, Event::Alloc),
-                (0, Event::Gate),
-                (0, Event::Gate),
-                (0, Event::Pair),
-                (0, Event::Cross),
-                (0, Event::Post),
-                (1, Event::Deliver),
-                (1, Event::FixX),
-                (1, Event::Gate),
-                (1, Event::Test),
-                (1, Event::Post),
-                (0, Event::Deliver),
-                (0, Event::FixZ),
-            ],
-        );
-        assert_eq!(rt; left(&rt, &machine, 1), None);
-        let source = left(&rt, &machine, 0).expect(&rt, "the source");
-        assert_eq!(rt; machine.amps().live().len(), 1);
-        assert_eq!(rt; machine.amps().exponent(), 3);
-        assert_eq!(rt;
-            numerators_of(machine.amps(), source),
-            Some([[1, 0, 0, 0], [0, 0, 0, 1]])
-        );
-    }
-    Ok(())
-}
-
-#[test]
-fn reaches_a_target_by_every_outcome(rt: HostRuntime) -> Result<(), Fail> {
-    for (first, second) in [(false, false), (false, true), (true, false), (true, true)] {
-        let input = reach_input(rt.alloc(), first, second)?;
-        let mut machine = machine_of(&rt, rt.alloc(), input)?;
-        follow(
-            &rt,
-            &mut machine,
-            &[
-                (1, Event::Alloc),
-                (1, Event::Gate),
-                (1, Event::Gate),
-                (0, Event::Alloc),
-                (0, Event::Gate),
-                (0, Event::Gate),
-                (0, Event::Pair),
-                (0, Event::Cross),
-                (0, Event::Post),
-                (1, Event::Deliver),
-                (1, Event::FixX),
-                (1, Event::Cross),
-                (1, Event::Had),
-                (1, Event::Post),
-                (1, Event::Gate),
-                (0, Event::Deliver),
-                (0, Event::FixZ),
-                (0, Event::Gate),
-            ],
-        );
-        let control = left(&rt, &machine, 0).expect(&rt, "the control");
-        let target = left(&rt, &machine, 1).expect(&rt, "the target");
-        assert_eq!(rt; machine.amps().live().len(), 2);
-        assert_eq!(rt; machine.amps().exponent(), 4);
-        let all = [[0, 1, 0, 0], [0, 0, 0, -1], [0, 0, 1, 0], [1, 0, 0, 0]];
-        assert_eq!(rt; numerators(machine.amps(), control, target), Some(all));
-    }
-    Ok(())
-}
-
 #[test]
 fn sends_a_measured_bit(rt: HostRuntime) -> Result<(), Fail> {
-    let input = bit_input(rt.alloc(), true)?;
+    let instructions = [
+        (0, ALLOC),
+        (0, HAD),
+        (0, Instr::Measure { q: 0, b: 0 }),
+        (0, SEND_MEASURED),
+        (1, RECEIVE_MEASURED),
+        (1, ALLOC),
+        (1, FLIP_WHEN_SENT),
+    ];
+    let input = programs(&rt, rt.alloc(), SMALL, &instructions, &[(0, true)], &[])?;
     let mut machine = machine_of(&rt, rt.alloc(), input)?;
-    follow(
-        &rt,
-        &mut machine,
-        &[
-            (0, Event::Alloc),
-            (0, Event::Gate),
-            (0, Event::Measure),
-            (0, Event::SendBit),
-            (1, Event::RecvBit),
-            (1, Event::Alloc),
-            (1, Event::When),
-        ],
-    );
+    follow(&rt, &mut machine, &[(1, blocked(Why::LaneEmpty))]);
+    assert_eq!(rt; run(&rt, &mut machine), State::AllEnded);
     assert_eq!(rt; (bits(&rt, &machine, 0), bits(&rt, &machine, 1)), (1, 0x20));
-    let measured = left(&rt, &machine, 0).expect(&rt, "what was measured");
-    let flipped = left(&rt, &machine, 1).expect(&rt, "what was flipped");
+    let measured = machine.slot(0, 0).expect(&rt, "what was measured");
+    let flipped = machine.slot(1, 0).expect(&rt, "what was flipped");
     assert_eq!(rt; machine.amps().exponent(), 1);
-    let zero = [0, 0, 0, 0];
-    let all = [zero, zero, zero, [1, 0, 0, 0]];
+    let all = [NONE, NONE, NONE, ONE];
     assert_eq!(rt; numerators(machine.amps(), measured, flipped), Some(all));
-    Ok(())
-}
-
-#[test]
-fn bits_go_both_ways(rt: HostRuntime) -> Result<(), Fail> {
-    let mut machine = machine_of(&rt, rt.alloc(), both_ways_input(rt.alloc())?)?;
-    assert_eq!(rt; run(&rt, &mut machine, 2), State::AllEnded);
-    assert_eq!(rt;
-        (bits(&rt, &machine, 0), bits(&rt, &machine, 1)),
-        (0x84, 0x202)
-    );
-    assert_eq!(rt; (machine.letters(), machine.schedule().len()), (0, 6));
-    Ok(())
-}
-
-#[test]
-fn a_failed_test_halts_the_machine(rt: HostRuntime) -> Result<(), Fail> {
-    let mut machine = machine_of(&rt, rt.alloc(), unequal_input(rt.alloc())?)?;
-    let unequal = Halt {
-        rank: 1,
-        turns: 7,
-        cause: Cause::NotEqual,
-    };
-    assert_eq!(rt; run(&rt, &mut machine, 2), State::Halted { halt: unequal });
-    let mut machine = machine_of(&rt, rt.alloc(), impossible_input(rt.alloc())?)?;
-    let impossible = Halt {
-        rank: 0,
-        turns: 1,
-        cause: Cause::Impossible,
-    };
-    assert_eq!(rt;
-        run(&rt, &mut machine, 1),
-        State::Halted { halt: impossible }
-    );
-    let mut machine = machine_of(&rt, rt.alloc(), one_freed_input(rt.alloc())?)?;
-    let not_zero = Halt {
-        rank: 0,
-        turns: 2,
-        cause: Cause::NotZero,
-    };
-    assert_eq!(rt; run(&rt, &mut machine, 1), State::Halted { halt: not_zero });
     Ok(())
 }

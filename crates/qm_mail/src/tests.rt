@@ -32,7 +32,10 @@ const HIGH: Lane = Lane {
 
 /// A parcel with the far half that rank 0 made as number `made`, without bits.
 fn half(made: u32) -> Parcel
-    ensures { result ≡ record { wire = Some (record { rank = 0; made = made; near = false }); bits = None } }
+    ensures { result ≡ record {
+      wire = Some (record { rank = 0; made = made; near = false });
+      bits = None;
+    } }
 {
     Parcel {
         wire: Some(Wire {

@@ -2,3 +2,4 @@ pub mod Searching
 pub mod Placing
 pub mod Table
 pub mod Keeping
+pub mod Standing

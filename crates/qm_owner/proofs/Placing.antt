@@ -106,7 +106,7 @@ placing_without es w h = record {
 }
 
 -- ---- a wire that comes
-lacked : (es : List (Wire × Place)) (w : Wire) → place_of es w ≡ None → Lacks (wires_in es) w
+pub lacked : (es : List (Wire × Place)) (w : Wire) → place_of es w ≡ None → Lacks (wires_in es) w
 lacked [] w absent = tt
 lacked (e ∷ es) w absent =
     let parts = shut (is_wire e.0 w) e.1 (place_of es w) absent in
@@ -197,7 +197,7 @@ exchanged true false x o apart = refl
 exchanged false t x o apart = refl
 
 -- the place of a wire behind the first entry is no slot of that entry
-apart_from : (e : Wire × Place) (es : List (Wire × Place)) (w : Wire) (p : Place) (r q : ℕ) → IsFree es e.1 → place_of es w ≡ Some p
+pub apart_from : (e : Wire × Place) (es : List (Wire × Place)) (w : Wire) (p : Place) (r q : ℕ) → IsFree es e.1 → place_of es w ≡ Some p
     → is_place e.1 (Slot r q) ≡ true → is_place p (Slot r q) ≡ true → ⊥
 apart_from e es w p r q free at here there =
     let empty : IsFree es (Slot r q) = subst (IsFree es) (same_place e.1 (Slot r q) here) free in

@@ -34,6 +34,11 @@ abbrev pub wire_at : List (Wire × Place) → Place → Option Wire
 wire_at [] p = None
 wire_at (e ∷ es) p = if is_place e.1 p then Some e.0 else wire_at es p
 
+-- the wires at a place, in the order in which they came there
+abbrev pub wires_at : List (Wire × Place) → Place → List Wire
+wires_at [] p = []
+wires_at (e ∷ es) p = if is_place e.1 p then e.0 ∷ wires_at es p else wires_at es p
+
 -- the places without that of w
 abbrev pub without : List (Wire × Place) → Wire → List (Wire × Place)
 without [] w = []

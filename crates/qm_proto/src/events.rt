@@ -1,3 +1,4 @@
+//! The events of each instruction, by stage.
 ghost use Rattle.std.specs.Prelude.{◌≡◌, ◌≤◌, ◌↔◌, IsNone, slice_get};
 ghost use Rattle.qm_instr.specs.Counts.{events_of};
 ghost use Rattle.qm_proto.specs.Events.{events_in};

@@ -3,4 +3,3 @@ pub mod Turning
 pub mod Playing
 pub mod Orders
 pub mod Existing
-pub mod Dues

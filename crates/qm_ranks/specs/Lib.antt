@@ -1,5 +1,3 @@
 pub mod Seeds
 pub mod Plays
 pub mod Laws
-pub mod Blocks
-pub mod Dues

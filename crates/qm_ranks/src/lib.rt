@@ -19,7 +19,8 @@ use rand_pcg::Lcg64Xsh32;
 /// machine. Whether one did an event; if not, the machine is at its end.
 fn turn<A: Amps>(machine: &mut Machine<A>, word: u32) -> bool
     requires { A.able }
-    ensures { Turns A.store machine.old (word % length machine.old.programs.ranks) machine.new result }
+    ensures { Turns A.store machine.old (word % length machine.old.programs.ranks) machine.new
+        result }
 {
     let ranks = u32::from(machine.ready().input().ranks());
     let start = word % ranks;

@@ -33,7 +33,8 @@ fn all_zero<Z: Numerator>(list: &[Z]) -> bool
 fn halve_all<Z: Numerator>(list: &mut [Z])
     requires { AreDivisible (meant_at Z.meaning list.old) }
     ensures size { length list.new ≡ length list.old }
-    ensures halved { (i : ℕ) → root2_of (meant_at Z.meaning list.new i) ≡ meant_at Z.meaning list.old i }
+    ensures halved { (i : ℕ) → root2_of (meant_at Z.meaning list.new i)
+        ≡ meant_at Z.meaning list.old i }
 {
     for i in 0..list.len() {
         list[i] = list[i].halved();

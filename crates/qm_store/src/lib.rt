@@ -63,7 +63,8 @@ impl ScaledAmps {
 
     fn phase(&mut self, k: u8, w: Wire)
         requires may { MayApply (Letter.Phase k w) (⟦<ScaledAmps as Amps>⟧.store self.old) }
-        ensures { Does (Letter.Phase k w) (⟦<ScaledAmps as Amps>⟧.store self.old) (⟦<ScaledAmps as Amps>⟧.store self.new) }
+        ensures { Does (Letter.Phase k w) (⟦<ScaledAmps as Amps>⟧.store self.old)
+            (⟦<ScaledAmps as Amps>⟧.store self.new) }
     {
         let place = place_of(&self.live, w);
         qm_kernels::phase(&mut self.numerators, place, k);
@@ -71,7 +72,8 @@ impl ScaledAmps {
 
     fn flip(&mut self, w: Wire)
         requires may { MayApply (Letter.Flip w) (⟦<ScaledAmps as Amps>⟧.store self.old) }
-        ensures { Does (Letter.Flip w) (⟦<ScaledAmps as Amps>⟧.store self.old) (⟦<ScaledAmps as Amps>⟧.store self.new) }
+        ensures { Does (Letter.Flip w) (⟦<ScaledAmps as Amps>⟧.store self.old)
+            (⟦<ScaledAmps as Amps>⟧.store self.new) }
     {
         let place = place_of(&self.live, w);
         qm_kernels::flip(&mut self.numerators, place);
@@ -79,7 +81,8 @@ impl ScaledAmps {
 
     fn cx(&mut self, c: Wire, t: Wire)
         requires may { MayApply (Letter.Cx c t) (⟦<ScaledAmps as Amps>⟧.store self.old) }
-        ensures { Does (Letter.Cx c t) (⟦<ScaledAmps as Amps>⟧.store self.old) (⟦<ScaledAmps as Amps>⟧.store self.new) }
+        ensures { Does (Letter.Cx c t) (⟦<ScaledAmps as Amps>⟧.store self.old)
+            (⟦<ScaledAmps as Amps>⟧.store self.new) }
     {
         let control = place_of(&self.live, c);
         let target = place_of(&self.live, t);
@@ -88,7 +91,8 @@ impl ScaledAmps {
 
     fn cz(&mut self, c: Wire, t: Wire)
         requires may { MayApply (Letter.Cz c t) (⟦<ScaledAmps as Amps>⟧.store self.old) }
-        ensures { Does (Letter.Cz c t) (⟦<ScaledAmps as Amps>⟧.store self.old) (⟦<ScaledAmps as Amps>⟧.store self.new) }
+        ensures { Does (Letter.Cz c t) (⟦<ScaledAmps as Amps>⟧.store self.old)
+            (⟦<ScaledAmps as Amps>⟧.store self.new) }
     {
         let one = place_of(&self.live, c);
         let other = place_of(&self.live, t);
@@ -97,7 +101,8 @@ impl ScaledAmps {
 
     fn keep(&mut self, w: Wire, m: bool)
         requires may { MayApply (Letter.Keep w m) (⟦<ScaledAmps as Amps>⟧.store self.old) }
-        ensures { Does (Letter.Keep w m) (⟦<ScaledAmps as Amps>⟧.store self.old) (⟦<ScaledAmps as Amps>⟧.store self.new) }
+        ensures { Does (Letter.Keep w m) (⟦<ScaledAmps as Amps>⟧.store self.old)
+            (⟦<ScaledAmps as Amps>⟧.store self.new) }
     {
         let place = place_of(&self.live, w);
         let list = self.numerators.as_mut_slice();
@@ -107,9 +112,12 @@ impl ScaledAmps {
 
     fn had(&mut self, w: Wire) -> Result<(), Overflow>
         requires may { MayApply (Letter.Had w) (⟦<ScaledAmps as Amps>⟧.store self.old) }
-        ensures does { OnOk result (Does (Letter.Had w) (⟦<ScaledAmps as Amps>⟧.store self.old) (⟦<ScaledAmps as Amps>⟧.store self.new)) }
-        ensures overflow { IsErr result ↔ Overflows (Letter.Had w) (⟦<ScaledAmps as Amps>⟧.store self.old) }
-        ensures unchanged { OnErr result (⟦<ScaledAmps as Amps>⟧.store self.new ≡ ⟦<ScaledAmps as Amps>⟧.store self.old) }
+        ensures does { OnOk result (Does (Letter.Had w) (⟦<ScaledAmps as Amps>⟧.store self.old)
+            (⟦<ScaledAmps as Amps>⟧.store self.new)) }
+        ensures overflow { IsErr result
+            ↔ Overflows (Letter.Had w) (⟦<ScaledAmps as Amps>⟧.store self.old) }
+        ensures unchanged { OnErr result
+            (⟦<ScaledAmps as Amps>⟧.store self.new ≡ ⟦<ScaledAmps as Amps>⟧.store self.old) }
     {
         let place = place_of(&self.live, w);
         if !qm_kernels::had_fits(&self.numerators, place) {
@@ -124,7 +132,8 @@ impl ScaledAmps {
 
     fn pair(&mut self, a: Wire, b: Wire)
         requires may { MayApply (Letter.Pair a b) (⟦<ScaledAmps as Amps>⟧.store self.old) }
-        ensures { Does (Letter.Pair a b) (⟦<ScaledAmps as Amps>⟧.store self.old) (⟦<ScaledAmps as Amps>⟧.store self.new) }
+        ensures { Does (Letter.Pair a b) (⟦<ScaledAmps as Amps>⟧.store self.old)
+            (⟦<ScaledAmps as Amps>⟧.store self.new) }
     {
         let count = self.live.len() as u32;
         pair_list(&mut self.numerators, count);
@@ -136,7 +145,8 @@ impl ScaledAmps {
 
     fn take(&mut self, w: Wire, m: bool)
         requires may { MayApply (Letter.Take w m) (⟦<ScaledAmps as Amps>⟧.store self.old) }
-        ensures { Does (Letter.Take w m) (⟦<ScaledAmps as Amps>⟧.store self.old) (⟦<ScaledAmps as Amps>⟧.store self.new) }
+        ensures { Does (Letter.Take w m) (⟦<ScaledAmps as Amps>⟧.store self.old)
+            (⟦<ScaledAmps as Amps>⟧.store self.new) }
     {
         let place = place_of(&self.live, w);
         take_list(&mut self.numerators, place, m);
@@ -146,7 +156,8 @@ impl ScaledAmps {
 
     fn rename(&mut self, a: Wire, b: Wire)
         requires may { MayApply (Letter.Rename a b) (⟦<ScaledAmps as Amps>⟧.store self.old) }
-        ensures { Does (Letter.Rename a b) (⟦<ScaledAmps as Amps>⟧.store self.old) (⟦<ScaledAmps as Amps>⟧.store self.new) }
+        ensures { Does (Letter.Rename a b) (⟦<ScaledAmps as Amps>⟧.store self.old)
+            (⟦<ScaledAmps as Amps>⟧.store self.new) }
     {
         let place = place_of(&self.live, a);
         self.live[place as usize] = b;

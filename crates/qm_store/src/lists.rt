@@ -13,7 +13,8 @@ pub(crate) fn double(numerators: &mut Vec<Zw>)
     requires small { length numerators.old.items ≤ 2 ^ 22 }
     requires room { 2 * length numerators.old.items ≤ vec_capacity numerators.old }
     ensures size { length numerators.new.items ≡ 2 * length numerators.old.items }
-    ensures numbers { (k : ℕ) → number_at numerators.new.items k ≡ number_at numerators.old.items k }
+    ensures numbers { (k : ℕ) → number_at numerators.new.items k
+        ≡ number_at numerators.old.items k }
     ensures room { vec_capacity numerators.old ≤ vec_capacity numerators.new }
 {
     let size = numerators.len();
@@ -25,7 +26,8 @@ pub(crate) fn pair_list(numerators: &mut Vec<Zw>, n: u32)
     requires few { n ≤ 22 }
     requires size { length numerators.old.items ≡ 2 ^ n }
     requires room { 4 * length numerators.old.items ≤ vec_capacity numerators.old }
-    ensures paired { IsListOf numerators.new.items (length numerators.old.items * 4) (pair_at zero_number n (number_at numerators.old.items)) }
+    ensures paired { IsListOf numerators.new.items (length numerators.old.items * 4)
+        (pair_at zero_number n (number_at numerators.old.items)) }
     ensures room { vec_capacity numerators.old ≤ vec_capacity numerators.new }
 {
     let size = numerators.len();
@@ -36,7 +38,8 @@ pub(crate) fn pair_list(numerators: &mut Vec<Zw>, n: u32)
 /// `Take` of `m` at a place.
 pub(crate) fn take_list(numerators: &mut Vec<Zw>, place: u32, m: bool)
     requires { HasPlace (length numerators.old.items) place }
-    ensures taken { IsListOf numerators.new.items (length numerators.old.items / 2) (take_at place m (number_at numerators.old.items)) }
+    ensures taken { IsListOf numerators.new.items (length numerators.old.items / 2)
+        (take_at place m (number_at numerators.old.items)) }
     ensures room { vec_capacity numerators.old ≤ vec_capacity numerators.new }
 {
     qm_kernels::gather(numerators, place, m);

@@ -12,9 +12,12 @@ pub fn turn_law()
     ensures one { (z : Number) → omega_times 0 z ≡ z }
     ensures omega { (z : Number) → omega_times 1 z ≡ number (neg_ℤ z.d) z.a z.b z.c }
     ensures omega2 { (z : Number) → omega_times 2 z ≡ number (neg_ℤ z.c) (neg_ℤ z.d) z.a z.b }
-    ensures omega3 { (z : Number) → omega_times 3 z ≡ number (neg_ℤ z.b) (neg_ℤ z.c) (neg_ℤ z.d) z.a }
-    ensures omega4 { (z : Number) → omega_times 4 z ≡ number (neg_ℤ z.a) (neg_ℤ z.b) (neg_ℤ z.c) (neg_ℤ z.d) }
-    ensures omega5 { (z : Number) → omega_times 5 z ≡ number z.d (neg_ℤ z.a) (neg_ℤ z.b) (neg_ℤ z.c) }
+    ensures omega3 { (z : Number)
+        → omega_times 3 z ≡ number (neg_ℤ z.b) (neg_ℤ z.c) (neg_ℤ z.d) z.a }
+    ensures omega4 { (z : Number)
+        → omega_times 4 z ≡ number (neg_ℤ z.a) (neg_ℤ z.b) (neg_ℤ z.c) (neg_ℤ z.d) }
+    ensures omega5 { (z : Number)
+        → omega_times 5 z ≡ number z.d (neg_ℤ z.a) (neg_ℤ z.b) (neg_ℤ z.c) }
     ensures omega6 { (z : Number) → omega_times 6 z ≡ number z.c z.d (neg_ℤ z.a) (neg_ℤ z.b) }
     ensures omega7 { (z : Number) → omega_times 7 z ≡ number z.b z.c z.d (neg_ℤ z.a) }
 {}

@@ -1,31 +1,41 @@
 -- One status and one text alone is due for words and a text
-use Rattle.std.proofs.Common.{◌≡◌, ℕ, ◌+◌, Bool, true, false, if◌then◌else◌, List, Option, Some, None, refl, sym, ap, subst, ◌∙◌, arith}
+use Rattle.std.proofs.Common.{◌≡◌, ℕ, ◌+◌, ◌<◌, ◌≤◌, ◌↔◌, Bool, true, false, IsTrue, if◌then◌else◌, List, Option, Some, None, length, ◌⊎◌, inl, inr, refl, sym, ap, subst, ◌∙◌, arith}
 use mathlib.Core.Path.{fun_ext}
 use Rattle.qm_denot.specs.declared.Wire.{Wire}
 use Rattle.qm_denot.specs.Circuits.{Amplitudes, Circuit}
 use Rattle.qm_denot.proofs.Unique.{one_form}
 use Rattle.qm_instr.specs.Programs.{Programs}
-use Rattle.qm_proto.specs.Model.Schedules.{protocol_total}
+use Rattle.qm_proto.specs.Model.Schedules.{protocol_total, RendezvousEnds}
 use Rattle.qm_proto.specs.Model.Ideal.{ideal_replay}
 use Rattle.qm_proto.proofs.Firsts.{one_run_unique}
-use Rattle.qm_ranks.specs.Dues.{IsDue}
-use Rattle.qm_ranks.proofs.Dues.{one_due}
-use Rattle.qm_reader.proofs.ReadingLaws.{one_reading}
+use Rattle.qm_ideal.specs.OneCircuits.{OneView, IsOneCircuit, EndsEarly}
+use Rattle.qm_eval.specs.Overflows.{IsFirstOverflow, NeverOverflows}
 use Rattle.qm_tool.specs.declared.command.Command.{Command}
+use Rattle.qm_tool.specs.declared.command.Command.TheVariants as command
+use Rattle.qm_tool.specs.declared.command.Play.{Play}
+use Rattle.qm_print.specs.declared.FaultLine.TheVariants as line
 use Rattle.qm_tool.specs.declared.status.Status.{Status}
 use Rattle.qm_tool.specs.declared.status.Status.TheVariants as status
 use Rattle.qm_tool.specs.Commands.{command_of, order_of, block_of}
-use Rattle.qm_tool.specs.StateText.{full_slots, state_lines, IsStateText}
-use Rattle.qm_tool.specs.Due.{refusal_line, IsTextAfter, IsOneText, RunsTo, RefusedWith, DueOf, NoCommand, TooMuch, Whole, OneAnswer}
+use Rattle.qm_tool.specs.Dues.{IsDue}
+use Rattle.qm_print.specs.CheckText.{check_text}
+use Rattle.qm_print.specs.FaultText.{fault_text}
+use Rattle.qm_print.specs.Slots.{full_slots}
+use Rattle.qm_print.specs.StateText.{state_lines, IsStateText}
+use Rattle.qm_ideal.specs.OneCircuits.{number_of_bits}
+use Rattle.qm_tool.specs.Due.{most_wires, OnReady, ReadsReady, IsTextAfter, IsOneText, RunsTo, RefusedWith, IsCircuitText, WaitsWith, IsAmplitudesText, WideWith, OverflowsWith, IsCheckText, AnswersReady, DueOf, NoCommand, TooMuch, Whole, OneAnswer}
+use Rattle.qm_tool.proofs.DueLemmas.{one_due}
+use Rattle.qm_tool.proofs.EndLemmas.{same_circuit_text}
+use Rattle.qm_tool.proofs.OneViews.{same_width, same_letters, ends_or_early, same_left}
+use Rattle.qm_tool.proofs.ReadingLaws.{ReadsReady-one, IsRefusedFor-one, ready_or_refused}
 
 -- ---- a circuit has one state text
 IsStateText-one : (p : Programs) (c : Circuit) (more : ℕ) (bits : ℕ → List Bool) (slots : ℕ → ℕ → Option Wire) (a b : List ℕ)
     → IsStateText p c more bits slots a → IsStateText p c more bits slots b → a ≡ b
 IsStateText-one p c more bits slots a b s t =
-    let full = full_slots p slots in
     let same = one_form s.numerators t.numerators s.exponent t.exponent c s.form t.form in
-    s.lines ∙ ap (λ (u : Amplitudes). state_lines p bits full u (s.exponent + more)) (fun_ext same.1)
-    ∙ ap (λ n. state_lines p bits full t.numerators (n + more)) same.0 ∙ sym t.lines
+    let lines : ℕ → Amplitudes → List ℕ = λ k u. state_lines (length p.ranks) (protocol_total p) (k + more) (λ r. number_of_bits (bits r)) (full_slots p slots) u in
+    s.lines ∙ ap (lines s.exponent) (fun_ext same.1) ∙ ap (λ k. lines k t.numerators) same.0 ∙ sym t.lines
 
 -- the text of the one circuit
 pub IsOneText-one : (p : Programs) (a b : List ℕ) → IsOneText p a → IsOneText p b → a ≡ b
@@ -38,43 +48,149 @@ IsOneText-one p a b s t =
 text_after_one : (p : Programs) (schedule a b : List ℕ) → IsTextAfter p schedule a → IsTextAfter p schedule b → a ≡ b
 text_after_one p schedule a b s t = IsStateText-one p _ _ _ _ a b s t
 
--- ---- a text has one answer
+-- ---- programs without a fault have one answer
 -- the status of a run that is complete, or stops
 abbrev pub status_of_run : Bool → Status
 status_of_run complete = if complete then status.Ok else status.Stopped
 
+same_truth : (b c : Bool) (P : Type 0) → IsTrue b ↔ P → IsTrue c ↔ P → b ≡ c
+same_truth true true P f g = refl
+same_truth false false P f g = refl
+same_truth true false P f g = sym (g.1 (f.0 refl))
+same_truth false true P f g = f.1 (g.0 refl)
+
+module _ (p : Programs) where
+  RunsTo-one : (play : Play) (ok so : Bool) (a b : List ℕ) → RunsTo ok play p a → RunsTo so play p b → (ok ≡ so) × (a ≡ b)
+  RunsTo-one play ok so a b e f = one_due p (order_of play) (IsTextAfter p) (block_of play p) (text_after_one p) a b ok so e.due f.due
+
+  IsCircuitText-one : (a b : List ℕ) → IsCircuitText p a → IsCircuitText p b → a ≡ b
+  IsCircuitText-one a b e f = e.whole ∙ same_circuit_text p e.circuit f.circuit e.one f.one ∙ sym f.whole
+
+  WaitsWith-one : (a b : List ℕ) → WaitsWith p a → WaitsWith p b → a ≡ b
+  WaitsWith-one a b e f = e.whole ∙ ap (λ n. fault_text (line.Waits n)) (same_left p e.left f.left e.early f.early) ∙ sym f.whole
+
+  WideWith-one : (a b : List ℕ) → WideWith p a → WideWith p b → a ≡ b
+  WideWith-one a b e f = e.whole ∙ ap (λ n. fault_text (line.Wide n)) (same_width p e.circuit f.circuit e.one f.one) ∙ sym f.whole
+
+  first-one : (c : Circuit) (i j : ℕ) → IsFirstOverflow c i → IsFirstOverflow c j → i ≡ j
+  first-one c i j a b = elim one_place [ inl less ↦ absurd (b.first i less a.overflows) | inr (inl same) ↦ same | inr (inr more) ↦ absurd (a.first j more b.overflows) ]
+    where
+      one_place : (i < j) ⊎ ((i ≡ j) ⊎ (j < i))
+      one_place = grind arith
+
+  OverflowsWith-one : (a b : List ℕ) → OverflowsWith p a → OverflowsWith p b → a ≡ b
+  OverflowsWith-one a b e f =
+      let same = same_letters p e.circuit f.circuit e.one f.one in
+      let first = first-one f.circuit.letters e.at f.at (subst (λ (c : Circuit). IsFirstOverflow c e.at) same e.first) f.first in
+      e.whole ∙ ap (λ n. fault_text (line.LetterOverflow n)) first ∙ sym f.whole
+
+  IsCheckText-one : (a b : List ℕ) → IsCheckText p a → IsCheckText p b → a ≡ b
+  IsCheckText-one a b e f = e.whole ∙ ap (check_text p) (same_truth e.meets f.meets (RendezvousEnds p) e.so f.so) ∙ sym f.whole
+
+  -- ---- the ways in which a run, the text of the one circuit, and its amplitudes may come out
+  data RunWay (play : Play) : Status → List ℕ → Type 0 where
+    Runs : (complete : Bool) (bytes : List ℕ) → RunsTo complete play p bytes → RunWay play (status_of_run complete) bytes
+
+  data MonoWay : Status → List ℕ → Type 0 where
+    Writes : (bytes : List ℕ) → IsCircuitText p bytes → MonoWay status.Ok bytes
+    Waits : (bytes : List ℕ) → WaitsWith p bytes → MonoWay status.Waits bytes
+
+  data AmpsWay : Status → List ℕ → Type 0 where
+    Values : (bytes : List ℕ) → IsAmplitudesText p bytes → AmpsWay status.Ok bytes
+    Lacks : (bytes : List ℕ) → WaitsWith p bytes → AmpsWay status.Waits bytes
+    Spreads : (bytes : List ℕ) → WideWith p bytes → AmpsWay status.Wide bytes
+    Overflows : (bytes : List ℕ) → OverflowsWith p bytes → AmpsWay status.LetterOverflow bytes
+
+  data CheckWay : Status → List ℕ → Type 0 where
+    Checks : (bytes : List ℕ) → IsCheckText p bytes → CheckWay status.Ok bytes
+
+  run_way : (play : Play) (s : Status) (bytes : List ℕ) → AnswersReady s (command.Run play) p bytes → RunWay play s bytes
+  run_way play status.Ok bytes d = Runs true bytes d
+  run_way play status.Stopped bytes d = Runs false bytes d
+  run_way play s bytes d = absurd d
+
+  mono_way : (s : Status) (bytes : List ℕ) → AnswersReady s command.Mono p bytes → MonoWay s bytes
+  mono_way status.Ok bytes d = Writes bytes d
+  mono_way status.Waits bytes d = Waits bytes d
+  mono_way s bytes d = absurd d
+
+  amps_way : (s : Status) (bytes : List ℕ) → AnswersReady s command.MonoAmps p bytes → AmpsWay s bytes
+  amps_way status.Ok bytes d = Values bytes d
+  amps_way status.Waits bytes d = Lacks bytes d
+  amps_way status.Wide bytes d = Spreads bytes d
+  amps_way status.LetterOverflow bytes d = Overflows bytes d
+  amps_way s bytes d = absurd d
+
+  check_way : (s : Status) (bytes : List ℕ) → AnswersReady s command.Check p bytes → CheckWay s bytes
+  check_way status.Ok bytes d = Checks bytes d
+  check_way s bytes d = absurd d
+
+  RunWay-one : (play : Play) (s s' : Status) (a b : List ℕ) → RunWay play s a → RunWay play s' b → (s ≡ s') × (a ≡ b)
+  RunWay-one play s s' a b (Runs ok x e) (Runs so y f) = let one = RunsTo-one play ok so x y e f in (ap status_of_run one.0, one.1)
+
+  MonoWay-one : (s s' : Status) (a b : List ℕ) → MonoWay s a → MonoWay s' b → (s ≡ s') × (a ≡ b)
+  MonoWay-one s s' a b (Writes x e) (Writes y f) = (refl, IsCircuitText-one x y e f)
+  MonoWay-one s s' a b (Waits x e) (Waits y f) = (refl, WaitsWith-one x y e f)
+  MonoWay-one s s' a b (Writes x e) (Waits y f) = absurd (ends_or_early p e.circuit f.left e.one f.early)
+  MonoWay-one s s' a b (Waits x e) (Writes y f) = absurd (ends_or_early p f.circuit e.left f.one e.early)
+
+  -- what keeps two ways apart
+  narrow_or_wide : (m n : OneView) → IsOneCircuit p m → IsOneCircuit p n → m.width ≤ most_wires → most_wires < n.width → ⊥
+  narrow_or_wide m n e f narrow wide = omega (arith, same_width p m n e f, narrow, wide)
+
+  fits_or_leaves : (m n : OneView) (at : ℕ) → IsOneCircuit p m → IsOneCircuit p n → NeverOverflows m.letters → IsFirstOverflow n.letters at → ⊥
+  fits_or_leaves m n at e f fits first = fits at (subst (λ (c : Circuit). IsFirstOverflow c at) (sym (same_letters p m n e f)) first).overflows
+
+  AmpsWay-one : (s s' : Status) (a b : List ℕ) → AmpsWay s a → AmpsWay s' b → (s ≡ s') × (a ≡ b)
+  AmpsWay-one s s' a b (Values x e) (Values y f) = (refl, IsOneText-one p x y e.text f.text)
+  AmpsWay-one s s' a b (Lacks x e) (Lacks y f) = (refl, WaitsWith-one x y e f)
+  AmpsWay-one s s' a b (Spreads x e) (Spreads y f) = (refl, WideWith-one x y e f)
+  AmpsWay-one s s' a b (Overflows x e) (Overflows y f) = (refl, OverflowsWith-one x y e f)
+  AmpsWay-one s s' a b (Values x e) (Lacks y f) = absurd (ends_or_early p e.circuit f.left e.one f.early)
+  AmpsWay-one s s' a b (Values x e) (Spreads y f) = absurd (narrow_or_wide e.circuit f.circuit e.one f.one e.narrow f.wide)
+  AmpsWay-one s s' a b (Values x e) (Overflows y f) = absurd (fits_or_leaves e.circuit f.circuit f.at e.one f.one e.fits f.first)
+  AmpsWay-one s s' a b (Lacks x e) (Values y f) = absurd (ends_or_early p f.circuit e.left f.one e.early)
+  AmpsWay-one s s' a b (Lacks x e) (Spreads y f) = absurd (ends_or_early p f.circuit e.left f.one e.early)
+  AmpsWay-one s s' a b (Lacks x e) (Overflows y f) = absurd (ends_or_early p f.circuit e.left f.one e.early)
+  AmpsWay-one s s' a b (Spreads x e) (Values y f) = absurd (narrow_or_wide f.circuit e.circuit f.one e.one f.narrow e.wide)
+  AmpsWay-one s s' a b (Spreads x e) (Lacks y f) = absurd (ends_or_early p e.circuit f.left e.one f.early)
+  AmpsWay-one s s' a b (Spreads x e) (Overflows y f) = absurd (narrow_or_wide f.circuit e.circuit f.one e.one f.narrow e.wide)
+  AmpsWay-one s s' a b (Overflows x e) (Values y f) = absurd (fits_or_leaves f.circuit e.circuit e.at f.one e.one f.fits e.first)
+  AmpsWay-one s s' a b (Overflows x e) (Lacks y f) = absurd (ends_or_early p e.circuit f.left e.one f.early)
+  AmpsWay-one s s' a b (Overflows x e) (Spreads y f) = absurd (narrow_or_wide e.circuit f.circuit e.one f.one e.narrow f.wide)
+
+  CheckWay-one : (s s' : Status) (a b : List ℕ) → CheckWay s a → CheckWay s' b → (s ≡ s') × (a ≡ b)
+  CheckWay-one s s' a b (Checks x e) (Checks y f) = (refl, IsCheckText-one x y e f)
+
+  pub AnswersReady-one : (c : Command) (s s' : Status) (a b : List ℕ) → AnswersReady s c p a → AnswersReady s' c p b → (s ≡ s') × (a ≡ b)
+  AnswersReady-one (command.Run play) s s' a b d e = RunWay-one play s s' a b (run_way play s a d) (run_way play s' b e)
+  AnswersReady-one command.Mono s s' a b d e = MonoWay-one s s' a b (mono_way s a d) (mono_way s' b e)
+  AnswersReady-one command.MonoAmps s s' a b d e = AmpsWay-one s s' a b (amps_way s a d) (amps_way s' b e)
+  AnswersReady-one command.Check s s' a b d e = CheckWay-one s s' a b (check_way s a d) (check_way s' b e)
+
+-- ---- a text has one answer
 module _ (c : Command) (text : List ℕ) where
-  -- what is due for the programs of one answer is due for those of another
-  RunsTo-one : (ok so : Bool) (a b : List ℕ) → RunsTo ok c text a → RunsTo so c text b → (ok ≡ so) × (a ≡ b)
-  RunsTo-one ok so a b e f =
-      let p = e.programs in
-      let same : f.programs ≡ p = one_reading.programs text f.programs p f.reads e.reads in
-      let due : IsDue p (order_of c) (IsTextAfter p) (block_of c p) b so =
-      subst (λ (q : Programs). IsDue q (order_of c) (IsTextAfter q) (block_of c q) b so) same f.due in
-      one_due p (order_of c) (IsTextAfter p) (block_of c p) (text_after_one p) a b ok so e.due due
-
   RefusedWith-one : (a b : List ℕ) → RefusedWith text a → RefusedWith text b → a ≡ b
-  RefusedWith-one a b e f = e.line ∙ ap refusal_line (one_reading.refusals text e.refusal f.refusal e.refused f.refused) ∙ sym f.line
+  RefusedWith-one a b e f = e.whole ∙ ap fault_text (IsRefusedFor-one text e.fault f.fault e.refused f.refused) ∙ sym f.whole
 
-  runs_or_refused : (ok : Bool) (a b : List ℕ) → RunsTo ok c text a → RefusedWith text b → ⊥
-  runs_or_refused ok a b e f = one_reading.apart text e.programs f.refusal e.reads f.refused
-
-  -- the ways of a text
   data Way : Status → List ℕ → Type 0 where
-    Runs : (complete : Bool) (bytes : List ℕ) → RunsTo complete c text bytes → Way (status_of_run complete) bytes
     Refuses : (bytes : List ℕ) → RefusedWith text bytes → Way status.Refused bytes
+    Goes : (s : Status) (bytes : List ℕ) → OnReady (AnswersReady s c) text bytes → Way s bytes
 
   way_of : (s : Status) (bytes : List ℕ) → DueOf c text s bytes → Way s bytes
-  way_of status.Ok bytes d = Runs true bytes d
-  way_of status.Stopped bytes d = Runs false bytes d
   way_of status.Refused bytes d = Refuses bytes d
-  way_of s bytes d = absurd d
+  way_of s bytes d = Goes s bytes d
+
+  ready_one : (s s' : Status) (a b : List ℕ) → OnReady (AnswersReady s c) text a → OnReady (AnswersReady s' c) text b → (s ≡ s') × (a ≡ b)
+  ready_one s s' a b e f =
+      let same = ReadsReady-one text f.programs e.programs f.reads e.reads in
+      AnswersReady-one e.programs c s s' a b e.so (subst (λ (p : Programs). AnswersReady s' c p b) same f.so)
 
   Way-one : (s s' : Status) (a b : List ℕ) → Way s a → Way s' b → (s ≡ s') × (a ≡ b)
-  Way-one s s' a b (Runs ok x e) (Runs so y f) = let one = RunsTo-one ok so x y e f in (ap status_of_run one.0, one.1)
-  Way-one s s' a b (Runs ok x e) (Refuses y f) = absurd (runs_or_refused ok x y e f)
-  Way-one s s' a b (Refuses x e) (Runs so y f) = absurd (runs_or_refused so y x f e)
   Way-one s s' a b (Refuses x e) (Refuses y f) = (refl, RefusedWith-one x y e f)
+  Way-one s s' a b (Refuses x e) (Goes q y f) = absurd (ready_or_refused text f.programs e.fault f.reads e.refused)
+  Way-one s s' a b (Goes q x e) (Refuses y f) = absurd (ready_or_refused text e.programs f.fault e.reads f.refused)
+  Way-one s s' a b (Goes q x e) (Goes t y f) = ready_one q t x y e f
 
 -- ---- one answer
 module _ (words : List (List ℕ)) where

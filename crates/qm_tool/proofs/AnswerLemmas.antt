@@ -1,9 +1,12 @@
--- What an answer is due for, from the program's run, the text and the source
-use Rattle.std.proofs.Common.{◌≡◌, ℕ, ◌+◌, ◌⊎◌, inl, inr, Bool, true, false, List, [], ◌++◌, length, Some, Result, Ok, Err, IfOk, refl, sym, ap, subst, ◌∙◌}
+-- What an answer is due for, from the programs, the text and the source
+use Rattle.std.proofs.Common.{◌≡◌, ℕ, ◌+◌, ◌<◌, ◌≤◌, ◌⊎◌, ◌↔◌, inl, inr, Bool, true, false, IsTrue, List, [], ◌∷◌, ◌++◌, length, Option, Some, None, Result, Ok, Err, IfOk, refl, sym, ap, subst, ◌∙◌, arith, codes}
 use Rattle.std.proofs.Math.Nat.{add-zero}
-use Rattle.std.proofs.lemmas.List.{append-nil}
 use Rattle.std.specs.declared.alloc.AllocError.{AllocError}
-use Rattle.qm_denot.specs.Stores.{Store}
+use mathlib.Core.Path.{fun_ext}
+use Rattle.qm_denot.specs.declared.Wire.{Wire}
+use Rattle.qm_denot.specs.Wires.{no_wires}
+use Rattle.qm_denot.specs.Circuits.{Circuit}
+use Rattle.qm_denot.specs.Stores.{Store, StandsFor}
 use Rattle.qm_instr.specs.Programs.{Programs}
 use Rattle.qm_io.specs.Ends.{SinkView, SourceView, Took, Broke}
 use Rattle.qm_io.specs.Intake.{GaveAll, GaveMore, FailedOnce, Takes}
@@ -11,102 +14,175 @@ use Rattle.qm_io.specs.declared.intake.TextError.{TextError}
 use Rattle.qm_io.specs.declared.intake.TextError.TheVariants as error
 use Rattle.qm_machine.specs.declared.Halt.{Halt}
 use Rattle.qm_machine.specs.Keeps.{MachineView, HasEnded, state_of}
-use Rattle.qm_proto.specs.Model.Schedules.{AllEnded}
-use Rattle.qm_ranks.specs.Blocks.{stopped_line}
-use Rattle.qm_ranks.specs.Dues.{IsDue, Completes, StopsShort, HaltStops}
-use Rattle.qm_reader.specs.Reading.{Reads}
+use Rattle.qm_proto.specs.Model.Ideal.{IdealTables, ideal_replay}
+use Rattle.qm_proto.specs.Model.Schedules.{protocol_total, RendezvousEnds}
+use Rattle.qm_ideal.specs.declared.MonoError.{MonoError}
+use Rattle.qm_ideal.specs.declared.MonoError.TheVariants as mono_error
+use Rattle.qm_ideal.specs.OneCircuits.{OneView, IsOneCircuit, Explains, bits_of, slot_of, number_of_bits}
+use Rattle.qm_eval.specs.Holding.{HoldsCircuit}
+use Rattle.qm_eval.specs.Overflows.{IsFirstOverflow}
+use Rattle.qm_print.specs.declared.FaultLine.{FaultLine}
+use Rattle.qm_print.specs.declared.FaultLine.TheVariants as line
+use Rattle.qm_print.specs.declared.Head.{Head}
+use Rattle.qm_print.specs.declared.Live.{Live}
+use Rattle.qm_print.specs.FaultText.{fault_text, stopped_line}
+use Rattle.qm_print.specs.Bits.{bits_lines}
+use Rattle.qm_print.specs.Slots.{full_slots, slots_text}
+use Rattle.qm_print.specs.StateText.{branch_lines, head_lines, state_lines}
 use Rattle.qm_tool.specs.declared.answer.Answer.{Answer}
 use Rattle.qm_tool.specs.declared.answer.Answer.TheVariants as answer
+use Rattle.qm_tool.specs.declared.circuits.Amplitudes.{Amplitudes}
 use Rattle.qm_tool.specs.declared.command.Command.{Command}
 use Rattle.qm_tool.specs.declared.command.Command.TheVariants as command
-use Rattle.qm_tool.specs.declared.full_slot.FullSlot.{FullSlot}
+use Rattle.qm_tool.specs.declared.command.Play.{Play}
+use Rattle.qm_tool.specs.declared.reading.Unread.{Unread}
+use Rattle.qm_tool.specs.declared.reading.Unread.TheVariants as unread
+use Rattle.qm_tool.specs.Reading as unread_specs
+use Rattle.qm_tool.specs.declared.running.Run.{Run}
 use Rattle.qm_tool.specs.declared.status.Status.{Status}
-use Rattle.qm_tool.specs.declared.status.Status.TheVariants.{WriteFault}
+use Rattle.qm_tool.specs.declared.status.Status.TheVariants as status
 use Rattle.qm_tool.specs.Commands.{command_of, order_of, block_of}
-use Rattle.qm_tool.specs.StateText.{full_slots, state_lines}
-use Rattle.qm_tool.specs.Due.{DueOf, IsTextAfter, RunsTo}
+use Rattle.qm_tool.specs.Dues.{IsDue, Completes, StopsShort, HaltStops}
+use Rattle.qm_tool.specs.Due.{OnReady, ReadsReady, IsRefusedFor, RefusedWith, IsTextAfter, RunsTo, IsOneText, IsCircuitText, WaitsWith, IsAmplitudesText, WideWith, OverflowsWith, IsCheckText, most_wires, AnswersReady, DueOf}
 use Rattle.qm_tool.specs.Calls.{Text, Ends, Whole, Broken}
-use Rattle.qm_tool.specs.Answers.{status_of, text_of, bits_in, machine_text, HasMachine, Has, IsPlayed, IsRun, RunsOut, Stops, AnswersText, AnswersSource, Concludes}
+use Rattle.qm_tool.specs.Ends.{HeadSays, bits_in, text_under}
+use Rattle.qm_tool.specs.Running.{IsRun, IsStopOf, status_where, text_where, end_text, run_status, run_text}
+use Rattle.qm_tool.specs.Answers.{status_of, text_of, AnswersPrograms, AnswersText, AnswersSource, Concludes}
+use Rattle.qm_tool.specs.Statuses.{status_of_fault}
+use Rattle.qm_tool.proofs.EndLemmas.{HeadSays-text, bits_lines-same}
+use Rattle.qm_tool.proofs.ReadingLaws.{IsRefusedFor-status}
 
--- no command writes a block
-no_block : (c : Command) (p : Programs) (schedule : List ℕ) → block_of c p schedule ≡ []
-no_block command.Plain p schedule = refl
-no_block (command.Sched seed) p schedule = refl
+-- ---- runs
+module _ {A : Type 0} (store : A → Store) (play : Play) (p : Programs) (run : Run A) (on : IsRun store play p run) where
+  abbrev state_text : List ℕ
+  state_text = text_under run.head run.live.items (store run.machine.amps).value
 
-with_block : (c : Command) (p : Programs) (schedule text : List ℕ) → text ≡ text ++ block_of c p schedule
-with_block c p schedule text = sym (ap (λ block. text ++ block) (no_block c p schedule) ∙ append-nil text)
+  abbrev block : List ℕ
+  block = block_of run.play run.machine.programs run.machine.schedule
 
--- the text of a machine is the state text of what its schedule leaves
-machine_lines : {A : Type 0} (store : A → Store) (m : MachineView A) (slots : List FullSlot) → slots ≡ full_slots m.programs (state_of m).tables.slots
-    → machine_text store m slots
-    ≡ state_lines m.programs (bits_in m) (full_slots m.programs (state_of m).tables.slots) (store m.amps).value ((store m.amps).exponent + 0)
-machine_lines store m slots full =
-    ap (λ (s : List FullSlot). state_lines m.programs (bits_in m) s (store m.amps).value (store m.amps).exponent) full
-    ∙ ap (state_lines m.programs (bits_in m) (full_slots m.programs (state_of m).tables.slots) (store m.amps).value) (sym (add-zero (store m.amps).exponent))
+  -- the block is that of the way in which it was played
+  with_block : (text : List ℕ) → text ++ block ≡ text ++ block_of play run.machine.programs run.machine.schedule
+  with_block text = ap (λ k. text ++ block_of k run.machine.programs run.machine.schedule) on.play_so
 
-module _ {A : Type 0} (store : A → Store) (c : Command) where
-  -- a machine that was played is the run of the programs that were read
-  played_to : (text bytes : List ℕ) (p : Programs) (complete : Bool) (m : MachineView A) → Reads text p → IsPlayed store c p m
-      → IsDue m.programs (order_of c) (IsTextAfter m.programs) (block_of c m.programs) bytes complete → RunsTo complete c text bytes
-  played_to text bytes p complete m h on due =
-      record { programs = m.programs; reads = subst (Reads text) (sym on.programs) h; in_range = on.in_range; due = due }
+  of_programs : (complete : Bool) (bytes : List ℕ) → IsDue run.machine.programs (order_of play) (IsTextAfter run.machine.programs) (block_of play run.machine.programs) bytes complete → RunsTo complete play p bytes
+  of_programs complete bytes due = subst (λ (q : Programs). RunsTo complete play q bytes) on.programs (record { in_range = on.in_range; due = due })
 
-  ended_to : (text : List ℕ) (p : Programs) (m : MachineView A) (a : Answer A) → Reads text p → IsPlayed store c p m
-      → AllEnded m.programs (state_of m).tables → HasMachine m a → AnswersText store c text a
-  ended_to text p m _ h on ended (Has slots branch full) = record {
-    due = played_to text _ p true m h on (Completes m.schedule on.played.schedule (record {
-      complete = record { legal = on.played.legal; ended = ended };
-      state = machine_text store m slots.items;
-      so = record {
-        numerators = (store m.amps).value;
-        exponent = (store m.amps).exponent;
-        form = on.stands.form;
-        lines = machine_lines store m slots.items full;
-      };
-      whole = with_block c m.programs m.schedule (machine_text store m slots.items);
-    }));
-  }
+  ended_to : HasEnded run.machine → RunsTo true play p (state_text ++ block)
+  ended_to ended =
+      let m = run.machine in
+      of_programs true (state_text ++ block) (Completes m.schedule on.played.schedule (record {
+        complete = record { legal = on.played.legal; ended = ended.ended };
+        state = state_text;
+        so = record {
+          numerators = (store m.amps).value;
+          exponent = (store m.amps).exponent;
+          form = on.stands.form;
+          lines = HeadSays-text m.programs (bits_in m) (store m.amps).exponent run.head run.live.items _ (store m.amps).value on.head on.slots
+              ∙ ap (λ k. state_lines (length m.programs.ranks) (protocol_total m.programs) k (λ r. number_of_bits (bits_in m r)) (full_slots m.programs (state_of m).tables.slots) (store m.amps).value)
+              (sym (add-zero (store m.amps).exponent));
+        };
+        whole = with_block state_text;
+      }))
 
-  -- the halt that a machine was played to
-  stopped_to : (text : List ℕ) (p : Programs) (m : MachineView A) (halt : Halt) → Reads text p → IsPlayed store c p m → m.halted ≡ Some halt
-      → HaltStops (order_of c) m halt → AnswersText store c text (answer.Stopped halt)
-  stopped_to text p m halt h on is stops = record {
-    due = played_to text _ p false m h on (StopsShort m.schedule on.played.schedule (record {
-      legal = on.played.legal;
-      rank = halt.rank;
-      cause = halt.cause;
-      stops = stops.stops;
-      whole = ap (λ n. stopped_line halt.rank n halt.cause) stops.turns ∙ with_block c m.programs m.schedule (stopped_line halt.rank (length m.schedule) halt.cause);
-    }));
-  }
+  stopped_to : (h : Halt) → HaltStops (order_of play) run.machine h → RunsTo false play p (fault_text (line.Stopped h.rank h.turns h.cause) ++ block)
+  stopped_to h stops =
+      let m = run.machine in
+      of_programs false (fault_text (line.Stopped h.rank h.turns h.cause) ++ block) (StopsShort m.schedule on.played.schedule (record {
+        legal = on.played.legal;
+        rank = h.rank;
+        cause = h.cause;
+        stops = stops.stops;
+        whole = ap (λ n. stopped_line h.rank n h.cause ++ block) stops.turns ∙ with_block (stopped_line h.rank (length m.schedule) h.cause);
+      }))
 
-  halt_of_play : (m : MachineView A) (halt : Halt) → m.halted ≡ Some halt → HasEnded m ⊎ ((h : Halt) × ((m.halted ≡ Some h) × HaltStops (order_of c) m h))
-      → HaltStops (order_of c) m halt
-  halt_of_play m halt is (inl ended) = let running = ended.running in absurd (cc)
-  halt_of_play m halt is (inr (h, (same, stops))) = let e : h ≡ halt = cc in subst (λ (x : Halt). HaltStops (order_of c) m x) e stops
+  abbrev DueWhere : Option FaultLine → Type 0
+  DueWhere stop = AnswersReady (status_where stop) (command.Run play) p (text_where state_text stop ++ block)
 
-  -- the run of the programs that were read answers the text
-  IsRun-answers : (text : List ℕ) (p : Programs) (a : Answer A) → Reads text p → IsRun store c p a → AnswersText store c text a
-  IsRun-answers text p a h (RunsOut m b on ended has) = ended_to text p m b h on ended has
-  IsRun-answers text p a h (Stops m halt on is) = stopped_to text p m halt h on is (halt_of_play m halt is on.played.over)
+  due_of_halt : (f : FaultLine) (h k : Halt) → run.machine.halted ≡ Some h → run.machine.halted ≡ Some k → f ≡ line.Stopped h.rank h.turns h.cause → HaltStops (order_of play) run.machine k → DueWhere (Some f)
+  due_of_halt f h k is so line_so stops =
+      let same : k ≡ h = cc in
+      subst (λ (g : FaultLine). DueWhere (Some g)) (sym line_so) (stopped_to h (subst (λ (x : Halt). HaltStops (order_of play) run.machine x) same stops))
 
-  pub run-answers : (text : List ℕ) (p : Programs) (r : Result (Answer A) AllocError) → Reads text p → IfOk r (IsRun store c p) → IfOk r (AnswersText store c text)
-  run-answers text p (Ok a) h run = IsRun-answers text p a h run
-  run-answers text p (Err e) h run = run
+  due_of_stop : (stop : Option FaultLine) → IsStopOf run.machine stop → HasEnded run.machine ⊎ ((h : Halt) × ((run.machine.halted ≡ Some h) × HaltStops (order_of play) run.machine h)) → DueWhere stop
+  due_of_stop None is (inl ended) = ended_to ended
+  due_of_stop None is (inr h) = let halted = h.1.0 in absurd (cc)
+  due_of_stop (Some f) is (inl ended) = let running = ended.running in let halted = is.1 in absurd (cc)
+  due_of_stop (Some f) is (inr h) = due_of_halt f is.0 h.0 is.1 h.1.0 is.2 h.1.1
+
+  -- the run answers the programs
+  pub run-answers : (c : Command) → c ≡ command.Run play → AnswersPrograms store c p (answer.Played run)
+  run-answers c is =
+      let due : AnswersReady (run_status run) (command.Run play) p (run_text store run) = due_of_stop run.stop on.stop on.played.over in
+      record { due = subst (λ (k : Command). AnswersReady (run_status run) k p (run_text store run)) (sym is) due }
+
+-- ---- the one circuit
+module _ (p : Programs) (m : OneView) (one : IsOneCircuit p m) where
+  -- the state text of a store that holds it
+  HoldsCircuit-text : (s : Store) (head : Head) (live : List Live) → HoldsCircuit m s → HeadSays p (bits_of m) (s.exponent + protocol_total p) head → live ≡ full_slots p (slot_of m)
+      → IsOneText p (text_under head live s.value)
+  HoldsCircuit-text s head live holds says full =
+      let t : IdealTables = (ideal_replay p one.ranks).tables in
+      let scale = s.exponent + protocol_total p in
+      record {
+        run = one.ranks;
+        one = one.run;
+        done = one.done;
+        state = record {
+          numerators = s.value;
+          exponent = s.exponent;
+          form = (subst (λ (c : Circuit). StandsFor s c) one.letters holds.stands).form;
+          lines = HeadSays-text p (bits_of m) scale head live _ s.value says full
+              ∙ ap
+              (λ b. head_lines (length p.ranks) (protocol_total p) scale ++ b ++ codes "live" ++ slots_text (full_slots p (slot_of m)) ++ codes "\n" ++ branch_lines s.value [] no_wires (full_slots p (slot_of m)) ++ codes "end\n")
+              (bits_lines-same (length p.ranks) (λ r. number_of_bits (bits_of m r)) (λ r. number_of_bits (t.parts r).bits) (λ r known. ap number_of_bits (one.bits r known)))
+              ∙ ap (λ (f : ℕ → ℕ → Option Wire). state_lines (length p.ranks) (protocol_total p) scale (λ r. number_of_bits (t.parts r).bits) (full_slots p f) s.value)
+              (fun_ext (λ r. fun_ext (λ q. one.slots r q)));
+        };
+      }
+
+  pub amplitudes-answer : (s : Store) (scale : ℕ) (head : Head) (live : List Live) → m.width ≤ most_wires → HoldsCircuit m s → scale ≡ s.exponent + protocol_total p → HeadSays p (bits_of m) scale head
+      → live ≡ full_slots p (slot_of m) → IsAmplitudesText p (text_under head live s.value)
+  amplitudes-answer s scale head live narrow holds same says full =
+      let says_so : HeadSays p (bits_of m) (s.exponent + protocol_total p) head = subst (λ n. HeadSays p (bits_of m) n head) same says in
+      record { circuit = m; one = one; narrow = narrow; fits = holds.fits; text = HoldsCircuit-text s head live holds says_so full }
+
+-- the line of the ranks that wait
+pub waits-answer : (p : Programs) (e : MonoError) (left : ℕ) → e ≡ mono_error.Waits left → Explains p e → WaitsWith p (fault_text (line.Waits left))
+waits-answer p e left is x = record { left = left; early = subst (Explains p) is x; whole = refl }
+
+-- ---- the text
+module _ {A : Type 0} (store : A → Store) (c : Command) (text : List ℕ) where
+  OnReady-due : (s : Status) (bytes : List ℕ) → OnReady (AnswersReady s c) text bytes → DueOf c text s bytes
+  OnReady-due status.Refused bytes d = absurd d.so
+  OnReady-due s bytes d = d
+
+  -- what answers the programs that were read answers the text
+  pub ready-answers : (p : Programs) (r : Result (Answer A) AllocError) → ReadsReady text p → IfOk r (AnswersPrograms store c p) → IfOk r (AnswersText store c text)
+  ready-answers p (Ok a) reads on = record { due = OnReady-due (status_of a) (text_of store a) (record { programs = p; reads = reads; so = on.due }) }
+  ready-answers p (Err e) reads on = on
+
+  refused : (f : FaultLine) → IsRefusedFor text f → AnswersText store c text (answer.Fault f)
+  refused f is =
+      let with_line : RefusedWith text (fault_text f) = record { fault = f; refused = is; whole = refl } in
+      record { due = subst (λ (s : Status). DueOf c text s (fault_text f)) (sym (IsRefusedFor-status text f is)) with_line }
+
+  -- and so does the line of its refusal
+  pub refusal-answers : (e : Unread) (f : FaultLine) → e ≡ unread.Refused f → unread_specs.Explains text e → AnswersText store c text (answer.Fault f)
+  refusal-answers e f is x = refused f (subst (unread_specs.Explains text) is x)
 
   -- what answers the text that was given answers the source
-  pub text-answers : (words : List (List ℕ)) (from from' : SourceView) (given text : List ℕ) (r : Result (Answer A) AllocError) → command_of words ≡ Some c → GaveAll from from' given → text ≡ given
+  pub text-answers : (words : List (List ℕ)) (from from' : SourceView) (given : List ℕ) (r : Result (Answer A) AllocError) → command_of words ≡ Some c → GaveAll from from' given → text ≡ given
       → IfOk r (AnswersText store c text) → IfOk r (AnswersSource store words from from')
-  text-answers words from from' given text (Ok a) e g same due = record { comes = Text c given _ _ e g (subst (λ (t : List ℕ). DueOf c t (status_of a) (text_of store a)) same due.due) }
-  text-answers words from from' given text (Err x) e g same due = due
+  text-answers words from from' given (Ok a) e g same due = record { comes = Text c given _ _ e g (subst (λ (t : List ℕ). DueOf c t (status_of a) (text_of store a)) same due.due) }
+  text-answers words from from' given (Err x) e g same due = due
 
 -- ---- the answer on the sink
 module _ {A : Type 0} (store : A → Store) where
   pub Concludes-written : (to to' : SinkView) (r : Result (Answer A) AllocError) (a : Answer A) (s : Status) → r ≡ Ok a → s ≡ status_of a → Took to to' (text_of store a) → Concludes store to to' r s
   Concludes-written to to' r a s e f t = subst (λ x. Concludes store to to' x s) (sym e) (subst (λ (q : Status). Ends (status_of a) (text_of store a) to to' q) (sym f) (Whole t))
 
-  pub Concludes-broken : (to to' : SinkView) (r : Result (Answer A) AllocError) (a : Answer A) → r ≡ Ok a → Broke to to' (text_of store a) → Concludes store to to' r WriteFault
-  Concludes-broken to to' r a e b = subst (λ x. Concludes store to to' x WriteFault) (sym e) (Broken b)
+  pub Concludes-broken : (to to' : SinkView) (r : Result (Answer A) AllocError) (a : Answer A) → r ≡ Ok a → Broke to to' (text_of store a) → Concludes store to to' r status.WriteFault
+  Concludes-broken to to' r a e b = subst (λ x. Concludes store to to' x status.WriteFault) (sym e) (Broken b)
 
 -- ---- why there is no text
 pub Takes-failed : (from from' : SourceView) (e : TextError) → e ≡ error.ReadFault → Takes from from' (Err e) → FailedOnce from from'
@@ -114,9 +190,3 @@ Takes-failed from from' e is t = subst (λ (x : TextError). Takes from from' (Er
 
 pub Takes-more : (from from' : SourceView) (e : TextError) → e ≡ error.TooLong → Takes from from' (Err e) → GaveMore from from'
 Takes-more from from' e is t = subst (λ (x : TextError). Takes from from' (Err x)) is t
-
--- ---- a machine that was played to its end, or to a halt
-pub played-ended : {A : Type 0} (store : A → Store) (c : Command) (p : Programs) (m : MachineView A) (r : Result (Answer A) AllocError)
-    → IsPlayed store c p m → HasEnded m → IfOk r (HasMachine m) → IfOk r (IsRun store c p)
-played-ended store c p m (Ok a) on ended has = RunsOut m a on ended.ended has
-played-ended store c p m (Err e) on ended has = has

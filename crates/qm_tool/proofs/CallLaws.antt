@@ -1,5 +1,5 @@
 -- What a whole call says: the cause of its status, and the status and the bytes that were due
-use Rattle.std.proofs.Common.{◌≡◌, ◌≢◌, ℕ, ◌≤◌, ◌⊎◌, inl, inr, List, ◌++◌, length, Option, Some, None, Result, Ok, Err, IfOk, refl, sym, ap, subst, ◌∙◌, arith, codes, length-append}
+use Rattle.std.proofs.Common.{◌≡◌, ◌≢◌, ℕ, ◌≤◌, ◌⊎◌, inl, inr, List, ◌++◌, length, Option, Some, None, Result, Ok, Err, IfOk, refl, sym, ap, subst, ◌∙◌, arith, length-append}
 use Rattle.std.proofs.lemmas.List.{append-nil}
 use Rattle.std.specs.declared.alloc.AllocError.{AllocError}
 use Rattle.qm_denot.specs.Stores.{Store}
@@ -7,12 +7,16 @@ use Rattle.qm_io.specs.Ends.{SinkView, SourceView, Rose, Took, IsSpent, led_by}
 use Rattle.qm_io.specs.Intake.{GaveAll, GaveMore, FailedOnce}
 use Rattle.qm_tool.specs.declared.answer.Answer.{Answer}
 use Rattle.qm_tool.specs.declared.answer.Answer.TheVariants as answer
+use Rattle.qm_print.specs.declared.FaultLine.TheVariants as line
 use Rattle.qm_tool.specs.declared.status.Status.{Status}
 use Rattle.qm_tool.specs.declared.status.Status.TheVariants as status
 use Rattle.qm_tool.specs.declared.command.Command.{Command}
+use Rattle.qm_tool.specs.declared.command.Command.TheVariants as command
+use Rattle.qm_tool.specs.declared.command.Play.{Play}
 use Rattle.qm_tool.specs.Commands.{command_of}
-use Rattle.qm_tool.specs.Due.{IsSure, EndsWith, IsOneCircuit, StopsWith, RefusedWith, DueOf, Due, NoCommand, TooMuch, Whole}
-use Rattle.qm_tool.specs.Calls.{Comes, Unasked, Failed, More, Text, Ends, Whole as Written, Broken, Ran, Starved, Done, Wrote, Under}
+use Rattle.qm_tool.specs.Due.{OnReady, IsSure, StatesOneCircuit, StopsWith, RefusedWith, WaitsWith, WideWith, OverflowsWith, DueOf, Due, NoCommand, TooMuch, Whole}
+use Rattle.qm_tool.specs.Calls.{Comes, Unasked, Failed, More, Text, Ends, Whole as Written, Broken, Ran, Starved, Done, Wrote, UnderRun, AsksForCircuit}
+use Rattle.qm_print.specs.FaultText.{fault_text}
 use Rattle.qm_tool.specs.Answers.{status_of, text_of, AnswersSource, Concludes}
 use Rattle.qm_tool.proofs.AnswerLaws.{Due-one}
 use Rattle.qm_tool.proofs.Completing.{Due-ok}
@@ -29,14 +33,6 @@ longer_than : (text got : List ℕ) (rest : Option (List ℕ)) → Some text ≡
 longer_than text got None e = cc
 longer_than text got (Some r) e = let k : text ≡ got ++ r = cc in omega (arith, ap length k, length-append got r)
 
--- where what was written is the state text of an end, it is that of one circuit
-pub Wrote-one_circuit : (words : List (List ℕ)) (from from' : SourceView) (to to' : SinkView) → Wrote (Under words EndsWith) from from' to to'
-    → Wrote (Under words IsOneCircuit) from from' to to'
-Wrote-one_circuit words from from' to to' w =
-    let u = w.says in
-    let one = EndsWith-one_circuit u.command w.text w.bytes u.says in
-    record { text = w.text; bytes = w.bytes; gave = w.gave; says = record { command = u.command; reads = u.reads; says = one }; took = w.took }
-
 module _ (words : List (List ℕ)) (from from' : SourceView) where
   -- what is due for what came is due for all that the source had
   Comes-due : (s : Status) (bytes text : List ℕ) → from.left ≡ Some text → (Rose from.faults from'.faults → ⊥) → Comes words from from' s bytes → Due words text s bytes
@@ -48,22 +44,29 @@ module _ (words : List (List ℕ)) (from from' : SourceView) where
       Whole c q b e (omega (arith, ap length all, g.short)) (subst (λ (x : List ℕ). DueOf c x q b) (sym all) d)
 
   module _ (to to' : SinkView) where
+    -- a status that was due for a text
+    pub record Told (s : Status) : Type 0 where
+      pub command : Command
+      pub reads : command_of words ≡ Some command
+      pub wrote : Wrote (λ text bytes. DueOf command text s bytes) from from' to to'
+
     -- what each status says of the ends
     abbrev pub Cause : Status → Type 0
-    Cause status.Ok = Wrote (Under words EndsWith) from from' to to'
     Cause status.Usage = command_of words ≡ None
     Cause status.ReadFault = FailedOnce from from'
     Cause status.TooLong = GaveMore from from'
-    Cause status.Refused = Wrote RefusedWith from from' to to'
-    Cause status.Stopped = Wrote (Under words StopsWith) from from' to to'
     Cause status.WriteFault = Rose to.faults to'.faults
     Cause status.OutOfMemory = to' ≡ to
+    Cause s = Told s
 
     DueOf-cause : (c : Command) (s : Status) (text bytes : List ℕ) → command_of words ≡ Some c → GaveAll from from' text → DueOf c text s bytes → Took to to' bytes → Cause s
-    DueOf-cause c status.Ok text bytes e g d t = record { text = text; bytes = bytes; gave = g; says = record { command = c; reads = e; says = d }; took = t }
-    DueOf-cause c status.Refused text bytes e g d t = record { text = text; bytes = bytes; gave = g; says = d; took = t }
-    DueOf-cause c status.Stopped text bytes e g d t = record { text = text; bytes = bytes; gave = g; says = record { command = c; reads = e; says = d }; took = t }
-    DueOf-cause c s text bytes e g d t = absurd d
+    DueOf-cause c status.Usage text bytes e g d t = absurd d.so
+    DueOf-cause c status.ReadFault text bytes e g d t = absurd d.so
+    DueOf-cause c status.TooLong text bytes e g d t = absurd d.so
+    DueOf-cause c status.WriteFault text bytes e g d t = absurd d.so
+    DueOf-cause c status.OutOfMemory text bytes e g d t = absurd d.so
+    DueOf-cause c s text bytes e g d t =
+        record { command = c; reads = e; wrote = record { text = text; bytes = bytes; gave = g; says = d; took = t } }
 
     Comes-cause : (s : Status) (bytes : List ℕ) → Comes words from from' s bytes → Took to to' bytes → Cause s
     Comes-cause s bytes (Unasked e same) t = e
@@ -91,16 +94,68 @@ module _ (words : List (List ℕ)) (from from' : SourceView) where
     Ran-exact r (Starved e) text s bytes told read wrote memory due = absurd (memory refl)
     Ran-exact r (Done q a) text s bytes told read wrote memory due = Ends-exact a.due q s a.bytes bytes text (Comes-due a.due a.bytes text told read a.comes) due wrote a.ends
 
+    -- ---- a status that was due for a text, by the command
+    one_command : (c d : Command) → command_of words ≡ Some c → command_of words ≡ Some d → d ≡ c
+    one_command c d e f = cc
+
+    -- of a command that is known
+    pub Told-of : (c : Command) (s : Status) → Told s → command_of words ≡ Some c → Wrote (λ text bytes. DueOf c text s bytes) from from' to to'
+    Told-of c s t e = subst (λ (d : Command). Wrote (λ text bytes. DueOf d text s bytes) from from' to to') (one_command c t.command e t.reads) t.wrote
+
+    pub Told-one_circuit : (play : Play) → Told status.Ok → command_of words ≡ Some (command.Run play) → Wrote (StatesOneCircuit play) from from' to to'
+    Told-one_circuit play t e =
+        let w = Told-of (command.Run play) status.Ok t e in
+        record { text = w.text; bytes = w.bytes; gave = w.gave; says = EndsWith-one_circuit play w.text w.bytes w.says; took = w.took }
+
+    pub Told-refused : Told status.Refused → Wrote RefusedWith from from' to to'
+    Told-refused t = t.wrote
+
+    pub Told-stopped : Told status.Stopped → UnderRun words (λ play. Wrote (StopsWith play) from from' to to')
+    Told-stopped t = by_command t.command t.reads t.wrote
+      where
+        by_command : (c : Command) → command_of words ≡ Some c → Wrote (λ text bytes. DueOf c text status.Stopped bytes) from from' to to' → UnderRun words (λ play. Wrote (StopsWith play) from from' to to')
+        by_command (command.Run play) e w = record { play = play; reads = e; so = w }
+        by_command command.Mono e w = absurd w.says.so
+        by_command command.MonoAmps e w = absurd w.says.so
+        by_command command.Check e w = absurd w.says.so
+
+    pub Told-waits : Told status.Waits → AsksForCircuit words × Wrote (OnReady WaitsWith) from from' to to'
+    Told-waits t = by_command t.command t.reads t.wrote
+      where
+        by_command : (c : Command) → command_of words ≡ Some c → Wrote (λ text bytes. DueOf c text status.Waits bytes) from from' to to' → AsksForCircuit words × Wrote (OnReady WaitsWith) from from' to to'
+        by_command (command.Run play) e w = absurd w.says.so
+        by_command command.Mono e w = (inl e, w)
+        by_command command.MonoAmps e w = (inr e, w)
+        by_command command.Check e w = absurd w.says.so
+
+    pub Told-wide : Told status.Wide → (command_of words ≡ Some command.MonoAmps) × Wrote (OnReady WideWith) from from' to to'
+    Told-wide t = by_command t.command t.reads t.wrote
+      where
+        by_command : (c : Command) → command_of words ≡ Some c → Wrote (λ text bytes. DueOf c text status.Wide bytes) from from' to to' → (command_of words ≡ Some command.MonoAmps) × Wrote (OnReady WideWith) from from' to to'
+        by_command (command.Run play) e w = absurd w.says.so
+        by_command command.Mono e w = absurd w.says.so
+        by_command command.MonoAmps e w = (e, w)
+        by_command command.Check e w = absurd w.says.so
+
+    pub Told-overflow : Told status.LetterOverflow → (command_of words ≡ Some command.MonoAmps) × Wrote (OnReady OverflowsWith) from from' to to'
+    Told-overflow t = by_command t.command t.reads t.wrote
+      where
+        by_command : (c : Command) → command_of words ≡ Some c → Wrote (λ text bytes. DueOf c text status.LetterOverflow bytes) from from' to to' → (command_of words ≡ Some command.MonoAmps) × Wrote (OnReady OverflowsWith) from from' to to'
+        by_command (command.Run play) e w = absurd w.says.so
+        by_command command.Mono e w = absurd w.says.so
+        by_command command.MonoAmps e w = (e, w)
+        by_command command.Check e w = absurd w.says.so
+
     -- ---- a text of which no schedule can stop
     Ends-ok : (due s : Status) (bytes : List ℕ) → due ≡ status.Ok → (Rose to.faults to'.faults → ⊥) → Ends due bytes to to' s → s ≡ status.Ok
     Ends-ok due s bytes e sure (Written t) = e
     Ends-ok due s bytes e sure (Broken k) = absurd (sure k.rose)
 
     pub Ran-complete : (r : Status) → Ran words from from' to to' r → (text : List ℕ) → from.left ≡ Some text → (Rose from.faults from'.faults → ⊥) → (Rose to.faults to'.faults → ⊥)
-        → command_of words ≢ None → length text ≤ 1048576 → IsSure text → (r ≡ status.Ok) ⊎ (r ≡ status.OutOfMemory)
-    Ran-complete r (Starved e) text told read wrote is short sure = inr refl
-    Ran-complete r (Done q a) text told read wrote is short sure =
-        inl (Ends-ok a.due q a.bytes (Due-ok words a.due text a.bytes is short sure (Comes-due a.due a.bytes text told read a.comes)) wrote a.ends)
+        → (play : Play) → command_of words ≡ Some (command.Run play) → length text ≤ 1048576 → IsSure text → (r ≡ status.Ok) ⊎ (r ≡ status.OutOfMemory)
+    Ran-complete r (Starved e) text told read wrote play is short sure = inr refl
+    Ran-complete r (Done q a) text told read wrote play is short sure =
+        inl (Ends-ok a.due q a.bytes (Due-ok words play a.due text a.bytes is short sure (Comes-due a.due a.bytes text told read a.comes)) wrote a.ends)
 
     -- ---- by the answer
     pub Concludes-ran : {A : Type 0} (store : A → Store) (r : Result (Answer A) AllocError) (s : Status) → IfOk r (AnswersSource store words from from') → Concludes store to to' r s → Ran words from from' to to' s
@@ -108,10 +163,10 @@ module _ (words : List (List ℕ)) (from from' : SourceView) where
     Concludes-ran store (Err e) s came ends = subst (Ran words from from' to to') (sym ends.0) (Starved ends.1)
 
     -- the answer to words that are no command is written, or a write fails
-    pub Concludes-usage : {A : Type 0} (store : A → Store) (r : Result (Answer A) AllocError) (s : Status) → r ≡ Ok answer.Usage → IfOk r (AnswersSource store words from from') → Concludes store to to' r s
+    pub Concludes-usage : {A : Type 0} (store : A → Store) (r : Result (Answer A) AllocError) (s : Status) → r ≡ Ok (answer.Fault line.Usage) → IfOk r (AnswersSource store words from from') → Concludes store to to' r s
         → (s ≡ status.Usage) ⊎ (s ≡ status.WriteFault)
     Concludes-usage store r s e came c = by_end s (subst (λ x. Concludes store to to' x s) e c)
       where
-        by_end : (s : Status) → Ends status.Usage (codes "usage\n") to to' s → (s ≡ status.Usage) ⊎ (s ≡ status.WriteFault)
+        by_end : (s : Status) → Ends status.Usage (fault_text line.Usage) to to' s → (s ≡ status.Usage) ⊎ (s ≡ status.WriteFault)
         by_end s (Written t) = inl refl
         by_end s (Broken b) = inr refl

@@ -1,33 +1,43 @@
 -- The state text of every complete schedule is that of the one circuit
 use mathlib.Core.Path.{fun_ext}
-use Rattle.std.proofs.Common.{◌≡◌, ℕ, ◌+◌, Bool, List, Option, true, refl, sym, ap, ◌∙◌}
+use Rattle.std.proofs.Common.{◌≡◌, ℕ, ◌+◌, Bool, List, Option, length, true, refl, sym, ap, subst, ◌∙◌}
 use Rattle.std.proofs.Math.Nat.{add-zero}
 use Rattle.qm_denot.specs.declared.Wire.{Wire}
 use Rattle.qm_denot.specs.Circuits.{Amplitudes}
 use Rattle.qm_denot.specs.Stores.{IsReducedForm}
 use Rattle.qm_denot.proofs.ReducedForms.{reduced_form}
 use Rattle.qm_denot.proofs.Unique.{one_form}
-use Rattle.qm_instr.specs.Programs.{Programs}
+use Rattle.qm_check.specs.Checks.{IsReady}
+use Rattle.qm_ideal.specs.OneCircuits.{EndsEarly}
+use Rattle.qm_instr.specs.Programs.{Programs, IsInRange}
 use Rattle.qm_proto.specs.Model.Schedules.{replay, protocol_total}
-use Rattle.qm_proto.specs.Model.Ideal.{ideal_replay}
-use Rattle.qm_ranks.specs.Dues.{IsDue, Completes, StopsShort}
+use Rattle.qm_proto.specs.Model.Ideal.{ideal_replay, AllDone}
+use Rattle.qm_proto.proofs.Firsts.{one_run_unique}
+use Rattle.qm_tool.specs.Dues.{IsDue, Completes, StopsShort}
 use Rattle.qm_runs.specs.Headline.{ComesToOne}
 use Rattle.qm_runs.proofs.Headline.{headline_law}
-use Rattle.qm_tool.specs.StateText.{state_lines, full_slots}
+use Rattle.qm_ideal.specs.OneCircuits.{number_of_bits}
+use Rattle.qm_print.specs.Slots.{full_slots}
+use Rattle.qm_print.specs.StateText.{state_lines}
 use Rattle.qm_tool.specs.declared.command.Command.{Command}
+use Rattle.qm_tool.specs.declared.command.Command.TheVariants as command
+use Rattle.qm_tool.specs.declared.command.Play.{Play}
+use Rattle.qm_tool.specs.declared.status.Status.TheVariants as status
 use Rattle.qm_tool.specs.Commands.{order_of, block_of}
-use Rattle.qm_tool.specs.Due.{EndsWith, IsTextAfter, IsOneText, IsOneCircuit}
+use Rattle.qm_tool.specs.Due.{EndsWith, IsTextAfter, IsOneText, IsOneTextWith, IsWithBlock, StatesOneCircuit, WaitsWith, AnswersReady, DueOf, AgreesWithRun}
+use Rattle.qm_tool.proofs.AnswerLaws.{IsOneText-one}
+use Rattle.qm_tool.proofs.ReadingLaws.{ReadsReady-one}
 
 module _ (p : Programs) where
-  -- the lines of equal bits, slots, numerators and scales
-  same_lines : (bits bits' : ℕ → List Bool) (slots slots' : ℕ → ℕ → Option Wire) (u u' : Amplitudes) (k k' : ℕ)
-      → bits ≡ bits' → slots ≡ slots' → u ≡ u' → k ≡ k'
-      → state_lines p bits (full_slots p slots) u k ≡ state_lines p bits' (full_slots p slots') u' k'
-  same_lines bits bits' slots slots' u u' k k' all_bits all_slots numbers scales =
-      ap (λ b. state_lines p b (full_slots p slots) u k) all_bits
-      ∙ ap (λ f. state_lines p bits' (full_slots p f) u k) all_slots
-      ∙ ap (λ g. state_lines p bits' (full_slots p slots') g k) numbers
-      ∙ ap (state_lines p bits' (full_slots p slots') u') scales
+  -- the lines of equal scales, bits, slots and numerators
+  same_lines : (k k' : ℕ) (bits bits' : ℕ → List Bool) (slots slots' : ℕ → ℕ → Option Wire) (u u' : Amplitudes)
+      → k ≡ k' → bits ≡ bits' → slots ≡ slots' → u ≡ u'
+      → state_lines (length p.ranks) (protocol_total p) k (λ r. number_of_bits (bits r)) (full_slots p slots) u
+      ≡ state_lines (length p.ranks) (protocol_total p) k' (λ r. number_of_bits (bits' r)) (full_slots p slots') u'
+  same_lines k k' bits bits' slots slots' u u' scales all_bits all_slots numbers =
+      let lines : ℕ → (ℕ → List Bool) → (ℕ → ℕ → Option Wire) → Amplitudes → List ℕ =
+      λ n b f v. state_lines (length p.ranks) (protocol_total p) n (λ r. number_of_bits (b r)) (full_slots p f) v in
+      ap (λ n. lines n bits slots u) scales ∙ ap (λ b. lines k' b slots u) all_bits ∙ ap (λ f. lines k' bits' f u) all_slots ∙ ap (lines k' bits' slots') numbers
 
   one_text : (schedule ranks text : List ℕ) → ComesToOne p schedule ranks → IsTextAfter p schedule text → IsOneText p text
   one_text schedule ranks text comes after =
@@ -45,27 +55,49 @@ module _ (p : Programs) where
           exponent = k;
           form = form.2;
           lines = after.lines
-              ∙ same_lines _ _ _ _ after.numerators u (after.exponent + 0) (k + protocol_total p)
-              (fun_ext (λ r. sym (comes.bits r))) (fun_ext (λ r. fun_ext (λ q. sym (comes.slots r q))))
-              (fun_ext same.1) (add-zero after.exponent ∙ same.0);
+              ∙ same_lines (after.exponent + 0) (k + protocol_total p) _ _ _ _ after.numerators u (add-zero after.exponent ∙ same.0)
+              (fun_ext (λ r. sym (comes.bits r))) (fun_ext (λ r. fun_ext (λ q. sym (comes.slots r q)))) (fun_ext same.1);
         };
       }
 
 -- the text of a run that is complete is that of the one circuit
-complete_one : (c : Command) (text bytes : List ℕ) (e : EndsWith c text bytes) (complete : Bool)
-    → IsDue e.programs (order_of c) (IsTextAfter e.programs) (block_of c e.programs) bytes complete → complete ≡ true → IsOneCircuit c text bytes
-complete_one c text bytes e _ (Completes schedule order due) is =
-    let law = headline_law e.programs e.reads.ready e.in_range schedule due.complete in
+complete_one : (play : Play) (p : Programs) (bytes : List ℕ) (complete : Bool) → IsReady p → IsInRange p
+    → IsDue p (order_of play) (IsTextAfter p) (block_of play p) bytes complete → complete ≡ true → IsOneTextWith play p bytes
+complete_one play p bytes _ ready in_range (Completes schedule order due) is =
+    let law = headline_law p ready in_range schedule due.complete in
     record {
-      programs = e.programs;
-      reads = e.reads;
       state = due.state;
-      one = one_text e.programs schedule law.0 due.state law.1 due.so;
-      schedule = schedule;
-      order = order;
-      whole = due.whole;
+      one = one_text p schedule law.0 due.state law.1 due.so;
+      blocked = record { schedule = schedule; order = order; whole = due.whole };
     }
-complete_one c text bytes e _ (StopsShort schedule order due) is = cc
+complete_one play p bytes _ ready in_range (StopsShort schedule order due) is = cc
 
-pub EndsWith-one_circuit : (c : Command) (text bytes : List ℕ) → EndsWith c text bytes → IsOneCircuit c text bytes
-EndsWith-one_circuit c text bytes e = complete_one c text bytes e true e.due refl
+pub EndsWith-one_circuit : (play : Play) (text bytes : List ℕ) → EndsWith play text bytes → StatesOneCircuit play text bytes
+EndsWith-one_circuit play text bytes e =
+    record { programs = e.programs; reads = e.reads; so = complete_one play e.programs bytes true e.reads.ready e.so.in_range e.so.due refl }
+
+-- so the amplitudes of the one circuit are those of the run, and the ideal run doesn't end early
+waits_not : (p : Programs) (left : ℕ) (state : List ℕ) → IsOneText p state → EndsEarly p left → ⊥
+waits_not p left state one e = e.early (subst (λ rs. AllDone p (ideal_replay p rs).tables) (one_run_unique p one.run e.ranks one.one e.run) one.done)
+
+module _ (text : List ℕ) where
+  ready_waits : (c : Command) (other : List ℕ) (p : Programs) → AnswersReady status.Waits c p other → WaitsWith p other
+  ready_waits (command.Run play) other p d = absurd d
+  ready_waits command.Mono other p d = d
+  ready_waits command.MonoAmps other p d = d
+  ready_waits command.Check other p d = absurd d
+
+  pub agrees : (play : Play) (bytes : List ℕ) → EndsWith play text bytes → AgreesWithRun play text bytes
+  agrees play bytes e =
+      let one = EndsWith-one_circuit play text bytes e in
+      let p = one.programs in
+      record {
+        amplitudes = λ state d.
+            let same = ReadsReady-one text d.programs p d.reads one.reads in
+            let text_so = IsOneText-one p one.so.state state one.so.one (subst (λ (q : Programs). IsOneText q state) same d.so.text) in
+            record { programs = p; reads = one.reads; so = subst (λ x. IsWithBlock play p x bytes) text_so one.so.blocked };
+        goes_on = λ c other d.
+            let same = ReadsReady-one text d.programs p d.reads one.reads in
+            let waits = subst (λ (q : Programs). WaitsWith q other) same (ready_waits c other d.programs d.so) in
+            waits_not p waits.left one.so.state one.so.one waits.early;
+      }

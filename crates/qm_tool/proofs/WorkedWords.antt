@@ -1,6 +1,7 @@
 -- Words that were read by hand, and seeds at both sides of each bound
 use Rattle.std.proofs.Common.{◌≡◌, [], ◌∷◌, Some, None, codes, refl}
 use Rattle.qm_tool.specs.declared.command.Command.TheVariants as command
+use Rattle.qm_tool.specs.declared.command.Play.TheVariants as playing
 use Rattle.qm_tool.specs.Commands.{command_of, seed_of}
 
 largest : seed_of (codes "18446744073709551615") ≡ Some 18446744073709551615
@@ -31,10 +32,10 @@ before_digits = refl
 after_digits : seed_of (codes "1:") ≡ None
 after_digits = refl
 
-the_one_word : command_of (codes "plain" ∷ []) ≡ Some command.Plain
+the_one_word : command_of (codes "plain" ∷ []) ≡ Some (command.Run playing.Plain)
 the_one_word = refl
 
-the_two_words : command_of (codes "sched" ∷ codes "12" ∷ []) ≡ Some (command.Sched 12)
+the_two_words : command_of (codes "sched" ∷ codes "12" ∷ []) ≡ Some (command.Run (playing.Sched 12))
 the_two_words = refl
 
 without_seed : command_of (codes "sched" ∷ []) ≡ None
@@ -48,3 +49,21 @@ capital = refl
 
 three_words : command_of (codes "sched" ∷ codes "12" ∷ codes "12" ∷ []) ≡ None
 three_words = refl
+
+traced : command_of (codes "trace" ∷ codes "12" ∷ []) ≡ Some (command.Run (playing.Trace 12))
+traced = refl
+
+the_circuit : command_of (codes "mono" ∷ []) ≡ Some command.Mono
+the_circuit = refl
+
+its_amplitudes : command_of (codes "mono" ∷ codes "amps" ∷ []) ≡ Some command.MonoAmps
+its_amplitudes = refl
+
+the_check : command_of (codes "check" ∷ []) ≡ Some command.Check
+the_check = refl
+
+check_of_amplitudes : command_of (codes "check" ∷ codes "amps" ∷ []) ≡ None
+check_of_amplitudes = refl
+
+amplitudes_alone : command_of (codes "amps" ∷ []) ≡ None
+amplitudes_alone = refl

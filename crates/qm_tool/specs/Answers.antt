@@ -1,84 +1,65 @@
 -- What a command answers: its status, its text, what must hold before it is written, and what it is due for
-use Rattle.std.specs.Prelude.{◌≡◌, ℕ, Bool, List, Some, length, codes, Result, Ok, Err, Vec}
-use Rattle.std.specs.declared.alloc.Global.{Global}
+use Rattle.std.specs.Prelude.{◌≡◌, ℕ, ◌≤◌, List, Result, Ok, Err}
 use Rattle.std.specs.declared.alloc.AllocError.{AllocError}
 use Rattle.qm_io.specs.Ends.{SinkView, SourceView}
-use Rattle.qm_denot.specs.Stores.{Store, StandsFor}
-use Rattle.qm_instr.specs.Programs.{Programs, IsInRange}
-use Rattle.qm_proto.specs.Model.Schedules.{AllEnded}
-use Rattle.qm_ranks.specs.Blocks.{stopped_line}
-use Rattle.qm_ranks.specs.Dues.{HasPlayed}
-use Rattle.qm_machine.specs.declared.Halt.{Halt}
-use Rattle.qm_machine.specs.Keeps.{MachineView, state_of}
-use Rattle.qm_tool.specs.declared.command.Command.{Command}
+use Rattle.qm_denot.specs.Stores.{Store}
+use Rattle.qm_instr.specs.Programs.{Programs}
+use Rattle.qm_ideal.specs.OneCircuits.{IsOneCircuit}
+use Rattle.qm_print.specs.CheckText.{check_text}
+use Rattle.qm_print.specs.CircuitText.{circuit_text}
+use Rattle.qm_print.specs.FaultText.{fault_text, NamesNoAnswers}
+use Rattle.qm_print.specs.Slots.{AreLive}
 use Rattle.qm_tool.specs.declared.answer.Answer.{Answer}
 use Rattle.qm_tool.specs.declared.answer.Answer.TheVariants as answer
-use Rattle.qm_tool.specs.declared.full_slot.FullSlot.{FullSlot}
-use Rattle.qm_tool.specs.declared.state_text.Branch.{Branch}
+use Rattle.qm_tool.specs.declared.circuits.Amplitudes.{Amplitudes}
+use Rattle.qm_tool.specs.declared.command.Command.{Command}
 use Rattle.qm_tool.specs.declared.status.Status.{Status}
 use Rattle.qm_tool.specs.declared.status.Status.TheVariants as status
-use Rattle.qm_tool.specs.Branches.{IsEmpty, HasRoom, AreLive}
-use Rattle.qm_tool.specs.StateText.{full_slots, state_lines}
-use Rattle.qm_tool.specs.Due.{DueOf, refusal_line}
-use Rattle.qm_tool.specs.Commands.{order_of}
 use Rattle.qm_tool.specs.Calls.{Comes, Ends}
-
--- the classical bits of a machine's ranks
-abbrev pub bits_in : {A : Type 0} → MachineView A → ℕ → List Bool
-bits_in m r = ((state_of m).tables.parts r).bits
-
--- the state text of a machine over these full slots
-abbrev pub machine_text : {A : Type 0} → (A → Store) → MachineView A → List FullSlot → List ℕ
-machine_text store m slots = state_lines m.programs (bits_in m) slots (store m.amps).value (store m.amps).exponent
+use Rattle.qm_tool.specs.Due.{AnswersReady, DueOf}
+use Rattle.qm_tool.specs.Ends.{text_under}
+use Rattle.qm_tool.specs.Running.{run_status, run_text, MayPutRun}
+use Rattle.qm_tool.specs.Statuses.{status_of_fault}
 
 -- the status of a call that wrote the answer
 abbrev pub status_of : {A : Type 0} → Answer A → Status
-status_of answer.Usage = status.Usage
-status_of answer.ReadFault = status.ReadFault
-status_of answer.TooLong = status.TooLong
-status_of (answer.Refused refusal) = status.Refused
-status_of (answer.Stopped halt) = status.Stopped
-status_of (answer.Ended machine slots branch) = status.Ok
+status_of (answer.Fault fault) = status_of_fault fault
+status_of (answer.Played run) = run_status run
+status_of (answer.Circuit ready circuit) = status.Ok
+status_of (answer.Valued amplitudes) = status.Ok
+status_of (answer.Checked ready meets) = status.Ok
 
 -- the answer's text
 abbrev pub text_of : {A : Type 0} → (A → Store) → Answer A → List ℕ
-text_of store answer.Usage = codes "usage\n"
-text_of store answer.ReadFault = codes "read fault\n"
-text_of store answer.TooLong = codes "too long\n"
-text_of store (answer.Refused refusal) = refusal_line refusal
-text_of store (answer.Stopped halt) = stopped_line halt.rank halt.turns halt.cause
-text_of store (answer.Ended machine slots branch) = machine_text store machine slots.items
+text_of store (answer.Fault fault) = fault_text fault
+text_of store (answer.Played run) = run_text store run
+text_of store (answer.Circuit ready circuit) = circuit_text ready circuit
+text_of store (answer.Valued amplitudes) = text_under amplitudes.head amplitudes.live.items (store amplitudes.amps).value
+text_of store (answer.Checked ready meets) = check_text ready meets
 
--- the slots of a state text hold different live wires, and the empty branch has room for them
+-- there are few ranks, and the slots hold different live wires
+pub record MayPutAmplitudes {A : Type 0} (store : A → Store) (a : Amplitudes A) : Type 0 where
+  pub few : a.head.ranks ≤ 16
+  pub live : AreLive (store a.amps).live a.live.items
+
+-- what must hold before it is written
 abbrev pub MayPut : {A : Type 0} → (A → Store) → Answer A → Type 0
-MayPut store answer.Usage = Unit {0}
-MayPut store answer.ReadFault = Unit {0}
-MayPut store answer.TooLong = Unit {0}
-MayPut store (answer.Refused refusal) = Unit {0}
-MayPut store (answer.Stopped halt) = Unit {0}
-MayPut store (answer.Ended machine slots branch) = AreLive (store machine.amps).live slots.items × IsEmpty branch × HasRoom branch (length slots.items)
+MayPut store (answer.Fault fault) = NamesNoAnswers fault
+MayPut store (answer.Played run) = MayPutRun store run
+MayPut store (answer.Circuit ready circuit) = IsOneCircuit ready circuit
+MayPut store (answer.Valued amplitudes) = MayPutAmplitudes store amplitudes
+MayPut store (answer.Checked ready meets) = Unit {0}
 
--- the answer has this machine, its full slots, and an empty branch with room for them
-pub data HasMachine {A : Type 0} (m : MachineView A) : Answer A → Type 0 where
-  Has : (slots : Vec FullSlot Global) (branch : Branch) → slots.items ≡ full_slots m.programs (state_of m).tables.slots → HasMachine m (answer.Ended m slots branch)
+-- ---- what the answer is due for
+-- for programs that have no fault
+pub record AnswersPrograms {A : Type 0} (store : A → Store) (c : Command) (p : Programs) (a : Answer A) : Type 0 where
+  pub due : AnswersReady (status_of a) c p (text_of store a)
 
--- a machine of the programs that was played in the command's order, from its start to its end
-pub record IsPlayed {A : Type 0} (store : A → Store) (c : Command) (p : Programs) (m : MachineView A) : Type 0 where
-  pub programs : m.programs ≡ p
-  pub in_range : IsInRange m.programs
-  pub stands : StandsFor (store m.amps) (state_of m).circuit
-  pub played : HasPlayed (order_of c) m
-
--- the answer is that of such a machine: all ranks have ended, or it is halted
-pub data IsRun {A : Type 0} (store : A → Store) (c : Command) (p : Programs) : Answer A → Type 0 where
-  RunsOut : (m : MachineView A) (a : Answer A) → IsPlayed store c p m → AllEnded m.programs (state_of m).tables → HasMachine m a → IsRun store c p a
-  Stops : (m : MachineView A) (halt : Halt) → IsPlayed store c p m → m.halted ≡ Some halt → IsRun store c p (answer.Stopped halt)
-
--- the answer is due for the text
+-- for the text
 pub record AnswersText {A : Type 0} (store : A → Store) (c : Command) (text : List ℕ) (a : Answer A) : Type 0 where
   pub due : DueOf c text (status_of a) (text_of store a)
 
--- the answer is due for what came from the source
+-- for what came from the source
 pub record AnswersSource {A : Type 0} (store : A → Store) (words : List (List ℕ)) (from from' : SourceView) (a : Answer A) : Type 0 where
   pub comes : Comes words from from' (status_of a) (text_of store a)
 

@@ -1,19 +1,23 @@
 -- A whole call: what came from the source, what went to the sink, and the status
-use Rattle.std.specs.Prelude.{◌≡◌, ℕ, List, Some, None, codes}
+use Rattle.std.specs.Prelude.{◌≡◌, ℕ, ◌⊎◌, List, Some, None}
 use Rattle.qm_io.specs.Ends.{SinkView, SourceView, Took, Broke}
 use Rattle.qm_io.specs.Intake.{GaveAll, GaveMore, FailedOnce}
 use Rattle.qm_tool.specs.declared.status.Status.{Status}
 use Rattle.qm_tool.specs.declared.status.Status.TheVariants as status
 use Rattle.qm_tool.specs.declared.command.Command.{Command}
+use Rattle.qm_tool.specs.declared.command.Command.TheVariants as command
+use Rattle.qm_tool.specs.declared.command.Play.{Play}
+use Rattle.qm_print.specs.declared.FaultLine.TheVariants as line
 use Rattle.qm_tool.specs.Commands.{command_of}
 use Rattle.qm_tool.specs.Due.{DueOf}
+use Rattle.qm_print.specs.FaultText.{fault_text}
 
 -- a status and bytes that are due for what came from the source: nothing was asked of it, a read failed, it gave too much, or it gave a
 -- whole text
 pub data Comes (words : List (List ℕ)) (old new : SourceView) : Status → List ℕ → Type 0 where
-  Unasked : command_of words ≡ None → new ≡ old → Comes words old new status.Usage (codes "usage\n")
-  Failed : (c : Command) → command_of words ≡ Some c → FailedOnce old new → Comes words old new status.ReadFault (codes "read fault\n")
-  More : (c : Command) → command_of words ≡ Some c → GaveMore old new → Comes words old new status.TooLong (codes "too long\n")
+  Unasked : command_of words ≡ None → new ≡ old → Comes words old new status.Usage (fault_text line.Usage)
+  Failed : (c : Command) → command_of words ≡ Some c → FailedOnce old new → Comes words old new status.ReadFault (fault_text line.ReadFault)
+  More : (c : Command) → command_of words ≡ Some c → GaveMore old new → Comes words old new status.TooLong (fault_text line.TooLong)
   Text : (c : Command) (text : List ℕ) (s : Status) (bytes : List ℕ) → command_of words ≡ Some c → GaveAll old new text → DueOf c text s bytes → Comes words old new s bytes
 
 -- the status that was due, with all its bytes taken; or a failed write, with a front of them
@@ -41,8 +45,12 @@ pub record Wrote (what : List ℕ → List ℕ → Type 0) (from from' : SourceV
   pub says : what text bytes
   pub took : Took to to' bytes
 
--- the words are a command, for which a text and bytes stand as is said
-pub record Under (words : List (List ℕ)) (what : Command → List ℕ → List ℕ → Type 0) (text bytes : List ℕ) : Type 0 where
-  pub command : Command
-  pub reads : command_of words ≡ Some command
-  pub says : what command text bytes
+-- the words are a command that runs a program, in a way for which this holds
+pub record UnderRun (words : List (List ℕ)) (holds : Play → Type 0) : Type 0 where
+  pub play : Play
+  pub reads : command_of words ≡ Some (command.Run play)
+  pub so : holds play
+
+-- the words are a command that makes the one circuit
+abbrev pub AsksForCircuit : List (List ℕ) → Type 0
+AsksForCircuit words = (command_of words ≡ Some command.Mono) ⊎ (command_of words ≡ Some command.MonoAmps)

@@ -1,7 +1,9 @@
 pub mod Statuses
+pub mod Dues
 pub mod Commands
-pub mod StateText
-pub mod Branches
 pub mod Due
+pub mod Reading
 pub mod Calls
+pub mod Ends
+pub mod Running
 pub mod Answers

@@ -2,16 +2,16 @@
 #![tactic(auto)]
 
 mod answer;
+mod circuits;
 mod command;
-mod full_slot;
+mod ends;
 pub mod laws;
-mod state_text;
+mod reading;
+mod running;
 mod status;
 mod top;
 
-pub use command::Command;
-pub use full_slot::FullSlot;
-pub use qm_reader::Refusal;
+pub use command::{Command, Play};
 pub use status::Status;
 pub use top::tool_plain;
 

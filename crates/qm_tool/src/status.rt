@@ -1,5 +1,8 @@
+//! How a command ends.
 ghost use Rattle.std.specs.Prelude.{◌≡◌};
-ghost use Rattle.qm_tool.specs.Statuses.{code_of};
+ghost use Rattle.qm_tool.specs.Statuses.{code_of, status_of_fault};
+
+use qm_print::FaultLine;
 
 /// How a command ended.
 #[derive(Clone, Copy, PartialEq, Eq, Debug)]
@@ -20,9 +23,31 @@ pub enum Status {
     WriteFault,
     /// No memory was left; nothing is written.
     OutOfMemory,
+    /// The programs have no one circuit, since ranks wait for each other.
+    Waits,
+    /// The one circuit has more wires than a store has room for.
+    Wide,
+    /// A letter of the one circuit leaves the range of the numbers.
+    LetterOverflow,
 }
 
 impl Status {
+    /// The status of a command that wrote this line.
+    pub(crate) fn of_fault(fault: &FaultLine) -> Status
+        ensures { result ≡ status_of_fault fault.now }
+    {
+        match fault {
+            FaultLine::Usage => Status::Usage,
+            FaultLine::ReadFault => Status::ReadFault,
+            FaultLine::TooLong => Status::TooLong,
+            FaultLine::Stopped { .. } => Status::Stopped,
+            FaultLine::Waits { .. } => Status::Waits,
+            FaultLine::Wide { .. } => Status::Wide,
+            FaultLine::LetterOverflow { .. } => Status::LetterOverflow,
+            _ => Status::Refused,
+        }
+    }
+
     /// The exit status of the process.
     pub fn code(self) -> u8
         ensures { result ≡ code_of self }
@@ -36,6 +61,9 @@ impl Status {
             Status::Stopped => 6,
             Status::WriteFault => 7,
             Status::OutOfMemory => 8,
+            Status::Waits => 9,
+            Status::Wide => 10,
+            Status::LetterOverflow => 11,
         }
     }
 }

@@ -1,13 +1,17 @@
 //! Whole commands over sources and sinks in memory.
 ghost use Rattle.std.specs.Prelude.{None};
 
+mod limits;
+mod orders;
+
 use super::*;
 use qm_io::{Failed, MemSink, Source, SureSource};
 use std::alloc::{AllocError, Global};
+use std::process::Abort;
 use std::test::Fail;
 
-/// The words, the source's text, the number of the write that fails or 0, the exit status, and the bytes that the sink took.
-type Row = (&'static str, &'static str, u64, u8, &'static str);
+/// The words, the source's text, the exit status, and the bytes that the sink took.
+type Row = (&'static str, &'static str, u8, &'static str);
 
 const PLUS: &str = "qmpi 1 ranks 1 qubits 1 buffer 1 rank 0 alloc 0 h 0 end";
 
@@ -22,12 +26,40 @@ const COPY_ZERO: &str =
 const COPIED: &str =
     "state 1\nranks 2\nprotocol 1\nscale 2\nbits 0 00000000\nbits 1 00000000\nlive 0.0 1.0\n00 1 0 0 0\n11 1 0 0 0\nend\n";
 
-fn rows() -> [Row; 28] {
+/// A copy that is given back to its source.
+const COPY_AND_BACK: &str =
+    "qmpi 1 ranks 2 qubits 1 buffer 1 rank 0 alloc 0 h 0 copyto 0 1 7 undofrom 0 1 8 end rank 1 copyfrom 0 0 7 undoto 0 0 8 end protocol 0 b1 protocol 1 b1";
+
+/// Two copies that are given back one after the other.
+const TWO_COPIES: &str =
+    "qmpi 1 ranks 2 qubits 2 buffer 1 rank 0 alloc 0 h 0 copyto 0 1 3 copyto 0 1 3 undofrom 0 1 4 undofrom 0 1 4 end rank 1 copyfrom 0 0 3 copyfrom 1 0 3 undoto 0 0 4 undoto 1 0 4 end protocol 0 b10 protocol 1 b11";
+
+/// A state over four machines, by one broadcast.
+const BROADCAST: &str =
+    "qmpi 1\nranks 4\nqubits 1\nbuffer 1\n# GHZ state over four machines\nrank 0\n  alloc 0\n  h 0\n  bcast 0 0 5\nend\nrank 1\n  bcast 0 0 5\nend\nrank 2\n  bcast 0 0 5\nend\nrank 3\n  bcast 0 0 5\nend\nprotocol 0 b101\n";
+
+/// What the broadcast leaves.
+const BROADCAST_STATE: &str =
+    "state 1\nranks 4\nprotocol 3\nscale 4\nbits 0 00000000\nbits 1 00000000\nbits 2 00000000\nbits 3 00000000\nlive 0.0 1.0 2.0 3.0\n0000 1 0 0 0\n1111 1 0 0 0\nend\n";
+
+/// Two ranks that each wait for the other.
+const BOTH_WAIT: &str =
+    "qmpi 1 ranks 2 qubits 1 buffer 1 rank 0 copyfrom 0 1 1 copyto 0 1 1 end rank 1 copyfrom 0 0 1 copyto 0 0 1 end protocol 0 b0 protocol 1 b0";
+
+/// Copies that are given up one after another.
+const MANY_COPIES: &str =
+    "qmpi 1 ranks 2 qubits 1 buffer 1 rank 0 alloc 0 for i in 0..25 { copyto 0 1 1 } end rank 1 for i in 0..25 { copyfrom 0 0 1 free 0 } end protocol 0 b0000000000000000000000000";
+
+/// A qubit that is turned again and again, until a numerator is too large.
+const TURNED_OUT: &str =
+    "qmpi 1 ranks 1 qubits 1 buffer 1 rank 0 alloc 0 for i in 0..2000 { h 0 t 0 } end";
+
+/// One rank, or ranks that send nothing.
+fn state_rows() -> [Row; 7] {
     [
         (
             "plain",
             "qmpi 1 ranks 1 qubits 1 buffer 1 rank 0  end ",
-            0,
             0,
             "state 1\nranks 1\nprotocol 0\nscale 0\nbits 0 00000000\nlive\n- 1 0 0 0\nend\n",
         ),
@@ -35,83 +67,314 @@ fn rows() -> [Row; 28] {
             "plain",
             "qmpi 1 ranks 1 qubits 1 buffer 1 rank 0 alloc 0 x 0 end",
             0,
-            0,
             "state 1\nranks 1\nprotocol 0\nscale 0\nbits 0 00000000\nlive 0.0\n1 1 0 0 0\nend\n",
         ),
         (
             "plain",
             PLUS,
             0,
-            0,
             "state 1\nranks 1\nprotocol 0\nscale 1\nbits 0 00000000\nlive 0.0\n0 1 0 0 0\n1 1 0 0 0\nend\n",
         ),
         (
             "plain",
-            "qmpi 1 ranks 1 qubits 1 buffer 1 rank 0 alloc 0 h 0 h 0 end ",
-            0,
+            "qmpi 1 ranks 1 qubits 1 buffer 1 rank 0 alloc 0 h 0 h 0 end",
             0,
             "state 1\nranks 1\nprotocol 0\nscale 0\nbits 0 00000000\nlive 0.0\n0 1 0 0 0\nend\n",
         ),
         (
             "plain",
-            "qmpi 1 ranks 1 qubits 1 buffer 1 rank 0 alloc 0 h 0 t 0 h 0 end ",
-            0,
+            "qmpi 1 ranks 1 qubits 1 buffer 1 rank 0 alloc 0 h 0 t 0 h 0 end",
             0,
             "state 1\nranks 1\nprotocol 0\nscale 2\nbits 0 00000000\nlive 0.0\n0 1 1 0 0\n1 1 -1 0 0\nend\n",
         ),
-        ("plain", COPY_ONE, 0, 0, COPIED),
-        ("plain", COPY_ZERO, 0, 0, COPIED),
-        ("sched 1", COPY_ONE, 0, 0, COPIED),
-        ("sched 007", COPY_ONE, 0, 0, COPIED),
-        ("sched 18446744073709551615", COPY_ZERO, 0, 0, COPIED),
-        ("sched 00000000000000000002", COPY_ZERO, 0, 0, COPIED),
-        ("plain more", PLUS, 0, 2, "usage\n"),
-        ("plain 7", PLUS, 0, 2, "usage\n"),
-        ("sched", PLUS, 0, 2, "usage\n"),
-        ("sched x", PLUS, 0, 2, "usage\n"),
-        ("sched +1", PLUS, 0, 2, "usage\n"),
-        ("sched 18446744073709551616", PLUS, 0, 2, "usage\n"),
-        ("sched 000000000000000000002", PLUS, 0, 2, "usage\n"),
-        ("sched 1 1", PLUS, 0, 2, "usage\n"),
-        ("Sched 1", PLUS, 0, 2, "usage\n"),
-        ("sched 1", PLUS, 3, 7, "state 1\nranks "),
-        ("", PLUS, 0, 2, "usage\n"),
         (
             "plain",
-            "qmpi 1\nranks 3 qubits 1 buffer 1",
+            "qmpi 1 ranks 1 qubits 1 buffer 1 rank 0 alloc 0 for i in 0..250 { h 0 t 0 } end",
             0,
-            5,
-            "refused ranks-not-built line 2\n",
+            "state 1\nranks 1\nprotocol 0\nscale 126\nbits 0 00000000\nlive 0.0\n0 -3933770060094836469 -1656034560885360599 -4404456393203843922 -3260358630694204200\n1 3260358630694204200 -2789672297585196747 2789672297585196747 -3260358630694204200\nend\n",
         ),
         (
             "plain",
-            "qmpi 1\nranks 2 qubits 1 buffer 1",
+            "qmpi 1 ranks 2 qubits 9 buffer 1 all end",
             0,
-            5,
-            "refused unexpected line 2\n",
+            "state 1\nranks 2\nprotocol 0\nscale 0\nbits 0 00000000\nbits 1 00000000\nlive\n- 1 0 0 0\nend\n",
+        ),
+    ]
+}
+
+/// Ranks that send and receive.
+fn message_rows() -> [Row; 17] {
+    [
+        ("plain", COPY_ONE, 0, COPIED),
+        ("plain", COPY_ZERO, 0, COPIED),
+        ("sched 1", COPY_ONE, 0, COPIED),
+        ("sched 007", COPY_ONE, 0, COPIED),
+        ("sched 18446744073709551615", COPY_ZERO, 0, COPIED),
+        ("sched 00000000000000000002", COPY_ZERO, 0, COPIED),
+        (
+            "plain",
+            "qmpi 1 ranks 2 qubits 1 buffer 1 rank 0 alloc 0 h 0 t 0 moveto 0 1 7 end rank 1 movefrom 0 0 7 end protocol 0 b11",
+            0,
+            "state 1\nranks 2\nprotocol 2\nscale 3\nbits 0 00000000\nbits 1 00000000\nlive 1.0\n0 1 0 0 0\n1 0 1 0 0\nend\n",
         ),
         (
             "plain",
-            "qmpi 1 ranks 2 qubits 1 buffer 1 rank 0 alloc 0\ncopyto 0 1 7 end\nrank 1 copyfrom 0 0 7 end\nprotocol 0 b",
+            COPY_AND_BACK,
             0,
-            5,
-            "refused unexpected line 4\n",
+            "state 1\nranks 2\nprotocol 2\nscale 3\nbits 0 00000000\nbits 1 00000000\nlive 0.0\n0 1 0 0 0\n1 1 0 0 0\nend\n",
+        ),
+        (
+            "sched 5",
+            COPY_AND_BACK,
+            0,
+            "state 1\nranks 2\nprotocol 2\nscale 3\nbits 0 00000000\nbits 1 00000000\nlive 0.0\n0 1 0 0 0\n1 1 0 0 0\nend\n",
         ),
         (
             "plain",
-            "qmpi 1 ranks 2 qubits 1 buffer 1 rank 0 alloc 0\ncopyto 0 1 7 end\nrank 1 copyfrom 0 0 8 end\nprotocol 0 b1",
+            TWO_COPIES,
             0,
-            5,
-            "refused unexpected line 2\n",
+            "state 1\nranks 2\nprotocol 4\nscale 5\nbits 0 00000000\nbits 1 00000000\nlive 0.0\n0 1 0 0 0\n1 1 0 0 0\nend\n",
         ),
         (
             "plain",
-            "qmpi 1 ranks 1 qubits 1 buffer 1\nrank 0\nalloc 1 end",
+            "qmpi 1 ranks 2 qubits 2 buffer 2 rank 0 alloc 0 copyto 0 1 1 copyfrom 1 1 1 end rank 1 alloc 0 copyto 0 0 1 copyfrom 1 0 1 end protocol 0 b0 protocol 1 b1",
             0,
-            5,
-            "refused unexpected line 3\n",
+            "state 1\nranks 2\nprotocol 2\nscale 2\nbits 0 00000000\nbits 1 00000000\nlive 0.0 0.1 1.0 1.1\n0000 1 0 0 0\nend\n",
         ),
-        ("plain", PLUS, 3, 7, "state 1\nranks "),
+        (
+            "plain",
+            "qmpi 1 ranks 2 qubits 1 buffer 1 rank 0 alloc 0 x 0 reachto 0 1 9 end rank 1 alloc 0 reachfrom 0 0 9 end protocol 0 b1 protocol 1 b1",
+            0,
+            "state 1\nranks 2\nprotocol 2\nscale 2\nbits 0 00000000\nbits 1 00000000\nlive 0.0 1.0\n11 1 0 0 0\nend\n",
+        ),
+        ("plain", BROADCAST, 0, BROADCAST_STATE),
+        ("sched 1", BROADCAST, 0, BROADCAST_STATE),
+        ("sched 2", BROADCAST, 0, BROADCAST_STATE),
+        (
+            "plain",
+            "qmpi 1 ranks 2 qubits 1 buffer 1 rank 0 alloc 0 h 0 measure 0 0 sendbit 0 1 2 end rank 1 recvbit 5 0 2 alloc 0 when 5 x 0 end own 0 b1",
+            0,
+            "state 1\nranks 2\nprotocol 0\nscale 1\nbits 0 00000001\nbits 1 00000020\nlive 0.0 1.0\n11 1 0 0 0\nend\n",
+        ),
+        (
+            "plain",
+            MANY_COPIES,
+            0,
+            "state 1\nranks 2\nprotocol 25\nscale 25\nbits 0 00000000\nbits 1 00000000\nlive 0.0\n0 1 0 0 0\nend\n",
+        ),
+    ]
+}
+
+/// Runs that stop.
+fn stop_rows() -> [Row; 7] {
+    [
+        (
+            "plain",
+            "qmpi 1 ranks 2 qubits 1 buffer 1 rank 0 alloc 0 copyto 0 1 1 undofrom 0 1 2 end rank 1 copyfrom 0 0 1 x 0 undoto 0 0 2 end protocol 0 b0 protocol 1 b0",
+            6,
+            "stopped rank 1 turns 7 not-equal\n",
+        ),
+        (
+            "plain",
+            "qmpi 1 ranks 1 qubits 1 buffer 1 rank 0 alloc 0 measure 0 0 end own 0 b1",
+            6,
+            "stopped rank 0 turns 1 impossible\n",
+        ),
+        (
+            "plain",
+            "qmpi 1 ranks 1 qubits 1 buffer 1 rank 0 alloc 0 x 0 free 0 end",
+            6,
+            "stopped rank 0 turns 2 not-zero\n",
+        ),
+        (
+            "plain",
+            "qmpi 1 ranks 2 qubits 2 buffer 1 rank 0 alloc 0 copyto 0 1 1 copyfrom 1 1 1 end rank 1 alloc 0 copyto 0 0 1 copyfrom 1 0 1 end protocol 0 b0 protocol 1 b1",
+            6,
+            "stopped rank 0 turns 2 stuck\n",
+        ),
+        (
+            "plain",
+            TURNED_OUT,
+            6,
+            "stopped rank 0 turns 1015 overflow\n",
+        ),
+        ("plain", BOTH_WAIT, 6, "stopped rank 0 turns 0 stuck\n"),
+        ("sched 9", BOTH_WAIT, 6, "stopped rank 0 turns 0 stuck\n"),
+    ]
+}
+
+/// Runs of which the events are listed.
+fn trace_rows() -> [Row; 3] {
+    [
+        (
+            "trace 1",
+            COPY_ONE,
+            0,
+            "state 1\nranks 2\nprotocol 1\nscale 2\nbits 0 00000000\nbits 1 00000000\nlive 0.0 1.0\n00 1 0 0 0\n11 1 0 0 0\nend\nturns 7\n0 alloc\n0 gate\n0 pair\n0 cx\n0 post\n1 deliver\n1 fix-x\nend\n",
+        ),
+        (
+            "trace 77",
+            COPY_ZERO,
+            0,
+            "state 1\nranks 2\nprotocol 1\nscale 2\nbits 0 00000000\nbits 1 00000000\nlive 0.0 1.0\n00 1 0 0 0\n11 1 0 0 0\nend\nturns 7\n0 alloc\n0 gate\n0 pair\n0 cx\n0 post\n1 deliver\n1 fix-x\nend\n",
+        ),
+        (
+            "trace 9",
+            BOTH_WAIT,
+            6,
+            "stopped rank 0 turns 0 stuck\nturns 0\nend\n",
+        ),
+    ]
+}
+
+/// The one circuit of programs, and their check.
+fn circuit_rows() -> [Row; 9] {
+    [
+        (
+            "mono",
+            TWO_COPIES,
+            0,
+            "circuit 1\nranks 2\nprotocol 4\nbits 0 00000000\nbits 1 00000000\nletters 7\nhad 0.0\ncx 0.0 0.1\ncx 0.0 0.2\ncx 0.0 0.1\ntake 0.1 0\ncx 0.0 0.2\ntake 0.2 0\nslot 0 0 0.0\nend\n",
+        ),
+        ("mono", BOTH_WAIT, 9, "waits 0 1\n"),
+        ("mono amps", BOTH_WAIT, 9, "waits 0 1\n"),
+        ("mono amps", COPY_ONE, 0, COPIED),
+        ("mono amps", BROADCAST, 0, BROADCAST_STATE),
+        ("mono amps", MANY_COPIES, 10, "wide 26\n"),
+        ("mono amps", TURNED_OUT, 11, "overflow letter 1014\n"),
+        (
+            "check",
+            COPY_ONE,
+            0,
+            "check 1\nranks 2\ncapacity 4\ninstructions 4\nevents 7\nown 0\nprotocol 1\nrendezvous yes\nend\n",
+        ),
+        (
+            "check",
+            BOTH_WAIT,
+            0,
+            "check 1\nranks 2\ncapacity 4\ninstructions 4\nevents 10\nown 0\nprotocol 2\nrendezvous no\nend\n",
+        ),
+    ]
+}
+
+/// Words that are no command.
+fn usage_rows() -> [Row; 17] {
+    [
+        ("trace", PLUS, 2, "usage\n"),
+        ("trace x", PLUS, 2, "usage\n"),
+        ("mono more", PLUS, 2, "usage\n"),
+        ("mono amps 1", PLUS, 2, "usage\n"),
+        ("check 1", PLUS, 2, "usage\n"),
+        ("amps", PLUS, 2, "usage\n"),
+        ("plain more", PLUS, 2, "usage\n"),
+        ("plain 7", PLUS, 2, "usage\n"),
+        ("sched", PLUS, 2, "usage\n"),
+        ("sched x", PLUS, 2, "usage\n"),
+        ("sched +1", PLUS, 2, "usage\n"),
+        ("sched 18446744073709551616", PLUS, 2, "usage\n"),
+        ("sched 000000000000000000002", PLUS, 2, "usage\n"),
+        ("sched 1 1", PLUS, 2, "usage\n"),
+        ("Sched 1", PLUS, 2, "usage\n"),
+        ("", PLUS, 2, "usage\n"),
+        ("run", PLUS, 2, "usage\n"),
+    ]
+}
+
+/// Texts that are no programs that may run.
+fn refusal_rows() -> [Row; 17] {
+    [
+        (
+            "plain",
+            "qmpi 1\nranks 1\nqubits 1\nbuffer 1\nrank 0\nalloc 0\n",
+            5,
+            "refused unended line 7\n",
+        ),
+        (
+            "sched 1",
+            "qmpi 1 ranks 1 qubits 1 buffer 1 rank 0 alloc 0 measure 0 0 end",
+            5,
+            "refused tape-length rank 0 own needs 1 has 0\n",
+        ),
+        (
+            "plain",
+            "qmpi 1 ranks 2 qubits 1 buffer 1 rank 0 alloc 0 copyto 0 1 7 end rank 1 copyfrom 0 0 7 end protocol 0 b",
+            5,
+            "refused tape-length rank 0 protocol needs 1 has 0\n",
+        ),
+        (
+            "plain",
+            "qmpi 1 ranks 2 qubits 1 buffer 1 rank 0 alloc 0 copyto 0 1 3 end rank 1 end protocol 0 b0",
+            5,
+            "refused unmatched-lane from 0 to 1 copy tag 3 sends 1 receives 0\n",
+        ),
+        (
+            "plain",
+            "qmpi 1 ranks 1 qubits 1 buffer 1 rank 0 h 0 end",
+            5,
+            "refused slot-empty rank 0 instruction 0\n",
+        ),
+        (
+            "plain",
+            "qmpi 1 ranks 1 qubits 1 buffer 1 rank 0 alloc 0 alloc 0 end",
+            5,
+            "refused slot-full rank 0 instruction 1\n",
+        ),
+        (
+            "plain",
+            "qmpi 1 ranks 1 qubits 2 buffer 1 rank 0 alloc 0 cx 0 0 end",
+            5,
+            "refused same-slot rank 0 instruction 1\n",
+        ),
+        (
+            "plain",
+            "qmpi 1 ranks 1 qubits 1 buffer 1 rank 0 sendbit 0 0 1 end",
+            5,
+            "refused self-message rank 0 instruction 0\n",
+        ),
+        (
+            "plain",
+            "qmpi 1 ranks 1 qubits 1 buffer 1 rank 0 sendbit 0 1 1 end",
+            5,
+            "refused bad-rank rank 0 instruction 0\n",
+        ),
+        (
+            "plain",
+            "qmpi 1 ranks 1 qubits 1 buffer 1 rank 0 alloc 1 / 0 end",
+            5,
+            "refused out-of-range line 1\n",
+        ),
+        (
+            "plain",
+            "qmpi 1 ranks 1 qubits 1 buffer 1 rank 0 alloc j end",
+            5,
+            "refused unknown-name line 1\n",
+        ),
+        ("plain", "qmpi\n$ 3", 5, "refused bad-byte line 2\n"),
+        ("plain", "qmpi 3", 5, "refused unexpected line 1\n"),
+        (
+            "plain",
+            "qmpi\n99999999999",
+            5,
+            "refused number-too-large line 2\n",
+        ),
+        (
+            "plain",
+            "qmpi 1 ranks 1 qubits 1 buffer 1 rank 0 alloc ((((((((((((((((((((((((((((((((( end",
+            5,
+            "refused too-deep line 1\n",
+        ),
+        (
+            "plain",
+            "qmpi 1 ranks 1 qubits 1 buffer 1 rank 0 for i in 0..1000001 { } end",
+            5,
+            "refused too-many line 1\n",
+        ),
+        (
+            "plain",
+            "qmpi 1 ranks 3 qubits 6 buffer 1 all end",
+            5,
+            "refused too-wide capacity 21\n",
+        ),
     ]
 }
 
@@ -124,18 +387,52 @@ fn command_of(alloc: Global, words: &str) -> Result<Vec<String>, AllocError> {
     Ok(command)
 }
 
-// Each text is read 7 bytes a call, and each answer written 8 bytes a call.
-#[test]
-fn a_command_writes_what_is_due(rt: HostRuntime) -> Result<(), Fail> {
-    for (words, text, failing, code, taken) in rows() {
-        let command = command_of(rt.alloc(), words)?;
-        let mut source = SureSource::start(text.as_bytes().to_vec(rt.alloc())?, 7);
-        let mut sink = MemSink::start(rt.alloc(), 400, [failing].to_vec(rt.alloc())?, 8)?;
-        let status = tool_plain(rt.alloc(), &command, &mut source, &mut sink);
-        assert_eq!(rt; status.code(), code, "at {text}");
-        assert_eq!(rt; sink.taken(), taken.as_bytes(), "at {text}");
+/// Each text is read 7 bytes a call, and each answer written 8 bytes a call.
+fn try_rows(rt: &impl Abort, alloc: Global, rows: &[Row]) -> Result<(), Fail> {
+    for (words, text, code, taken) in rows {
+        let command = command_of(alloc, words)?;
+        let mut source = SureSource::start(text.as_bytes().to_vec(alloc)?, 7);
+        let mut sink = MemSink::start(alloc, 400, Vec::new(alloc), 8)?;
+        let status = tool_plain(alloc, &command, &mut source, &mut sink);
+        assert_eq!(rt; sink.taken(), taken.as_bytes(), "{words} at {text}");
+        assert_eq!(rt; status.code(), *code, "{words} at {text}");
     }
     Ok(())
+}
+
+#[test]
+fn one_rank_comes_to_its_state(rt: HostRuntime) -> Result<(), Fail> {
+    try_rows(&rt, rt.alloc(), &state_rows())
+}
+
+#[test]
+fn ranks_come_to_their_state(rt: HostRuntime) -> Result<(), Fail> {
+    try_rows(&rt, rt.alloc(), &message_rows())
+}
+
+#[test]
+fn a_run_that_is_refused_an_event_stops(rt: HostRuntime) -> Result<(), Fail> {
+    try_rows(&rt, rt.alloc(), &stop_rows())
+}
+
+#[test]
+fn events_are_listed_behind_the_state_or_the_stop(rt: HostRuntime) -> Result<(), Fail> {
+    try_rows(&rt, rt.alloc(), &trace_rows())
+}
+
+#[test]
+fn the_one_circuit_is_written_and_evaluated(rt: HostRuntime) -> Result<(), Fail> {
+    try_rows(&rt, rt.alloc(), &circuit_rows())
+}
+
+#[test]
+fn other_words_are_usage(rt: HostRuntime) -> Result<(), Fail> {
+    try_rows(&rt, rt.alloc(), &usage_rows())
+}
+
+#[test]
+fn a_text_is_refused_for_its_first_fault(rt: HostRuntime) -> Result<(), Fail> {
+    try_rows(&rt, rt.alloc(), &refusal_rows())
 }
 
 /// The status of a command whose sink fails at one call, and how many bytes the sink took.
@@ -168,16 +465,6 @@ fn a_flush_that_fails_is_a_write_fault(rt: HostRuntime) -> Result<(), Fail> {
     Ok(())
 }
 
-/// A program of one rank that turns its qubit by `h` and `t` so many times.
-fn turning(alloc: Global, times: u32) -> Result<Vec<u8>, AllocError> {
-    let mut text = b"qmpi 1 ranks 1 qubits 1 buffer 1 rank 0 alloc 0".to_vec(alloc)?;
-    for _ in 0..times {
-        text.extend_from_slice(b" h 0 t 0")?;
-    }
-    text.extend_from_slice(b" end")?;
-    Ok(text)
-}
-
 /// The exit status of `plain` over a source, and the sink that it wrote to.
 fn run_plain<I: Source>(alloc: Global, source: &mut I) -> Result<(u8, MemSink), AllocError> {
     let command = command_of(alloc, "plain")?;
@@ -187,21 +474,9 @@ fn run_plain<I: Source>(alloc: Global, source: &mut I) -> Result<(u8, MemSink), 
 }
 
 #[test]
-fn a_run_that_is_refused_an_event_stops(rt: HostRuntime) -> Result<(), Fail> {
-    let mut source = SureSource::start(turning(rt.alloc(), 508)?, 1000);
-    let (code, sink) = run_plain(rt.alloc(), &mut source)?;
-    assert_eq!(rt; code, 6);
-    assert_eq!(rt;
-        sink.taken(),
-        "stopped rank 0 turns 1015 overflow\n".as_bytes()
-    );
-    Ok(())
-}
-
-#[test]
 fn a_text_past_the_limit_is_too_long(rt: HostRuntime) -> Result<(), Fail> {
     for (blanks, code, taken) in [
-        (1_048_576, 5, "refused unexpected line 1\n"),
+        (1_048_576, 5, "refused unended line 1\n"),
         (1_048_577, 4, "too long\n"),
     ] {
         let text = vec![in rt.alloc(); b' '; blanks]?;

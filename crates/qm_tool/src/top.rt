@@ -1,21 +1,49 @@
+//! The top call.
 ghost use Rattle.std.specs.Prelude.{◌≡◌, ◌≢◌, ◌≤◌, ◌⊎◌, List, ℕ, length, map, IfOk, None, Some};
 ghost use Rattle.std.specs.Result.{ForOk};
 ghost use Rattle.std.specs.String.{string_bytes};
 ghost use Rattle.qm_io.specs.Ends.{Rose, Took};
 ghost use Rattle.qm_io.specs.Intake.{GaveMore, FailedOnce};
-ghost use Rattle.qm_tool.specs.Answers.{MayPut, AnswersText, AnswersSource, Concludes};
+ghost use Rattle.qm_check.specs.Checks.{IsReady};
+ghost use Rattle.qm_tool.specs.Answers.{MayPut, AnswersPrograms, AnswersText, AnswersSource, Concludes};
 ghost use Rattle.qm_tool.specs.Commands.{command_of};
-ghost use Rattle.qm_tool.specs.Due.{Due, IsSure, EndsWith, IsOneCircuit, StopsWith, RefusedWith};
-ghost use Rattle.qm_tool.specs.Calls.{Ran, Under, Wrote};
+ghost use Rattle.qm_tool.specs.Due.{Due, OnReady, IsSure, EndsWith, StatesOneCircuit, StopsWith, RefusedWith, IsCircuitText, IsAmplitudesText, IsCheckText, WaitsWith, WideWith, OverflowsWith};
+ghost use Rattle.qm_tool.specs.Calls.{AsksForCircuit, Ran, UnderRun, Wrote};
 
-use crate::answer::{Answer, put_answer, run};
-use crate::command::{Command, command_of};
+use crate::answer::{Answer, put_answer};
+use crate::circuits::{amplitudes_of, check_of, circuit_of};
+use crate::command::{Command, Play, command_of};
+use crate::reading::{Unread, read_ready};
+use crate::running::Run;
 use crate::status::Status;
+use qm_check::Ready;
 use qm_denot::Amps;
 use qm_io::{Sink, Source, TextError, read_all};
-use qm_reader::{ReadError, read};
+use qm_print::FaultLine;
 use qm_store::ScaledAmps;
 use std::alloc::{AllocError, Global};
+
+/// What is due for ready programs under a command. `AllocError` comes from the allocator alone.
+fn answer_ready(
+    alloc: Global,
+    command: Command,
+    ready: Ready,
+) -> Result<Answer<ScaledAmps>, AllocError>
+    requires { IsReady ready }
+    ensures due { IfOk result (AnswersPrograms (⟦<ScaledAmps as Amps>⟧.store) command ready) }
+    ensures may_put { IfOk result (MayPut (⟦<ScaledAmps as Amps>⟧.store)) }
+{
+    match command {
+        Command::Run { play } => {
+            let amps = ScaledAmps::start(alloc, ready.capacity())?;
+            let run = Run::start(alloc, play, ready, amps)?;
+            Ok(Answer::Played { run })
+        }
+        Command::Mono => circuit_of(alloc, ready),
+        Command::MonoAmps => amplitudes_of(alloc, &ready),
+        Command::Check => check_of(alloc, ready),
+    }
+}
 
 /// What is due for a text under a command. `AllocError` comes from the allocator alone.
 fn answer_text(
@@ -27,13 +55,12 @@ fn answer_text(
     ensures due { IfOk result (AnswersText (⟦<ScaledAmps as Amps>⟧.store) command text.now) }
     ensures may_put { IfOk result (MayPut (⟦<ScaledAmps as Amps>⟧.store)) }
 {
-    match read(alloc, text) {
-        Ok(ready) => {
-            let amps = ScaledAmps::start(alloc, ready.capacity())?;
-            run(alloc, command, ready, amps)
-        }
-        Err(ReadError::Refused { refusal }) => Ok(Answer::Refused { refusal }),
-        Err(ReadError::Memory) => Err(AllocError),
+    match read_ready(alloc, text) {
+        Ok(ready) => answer_ready(alloc, command, ready),
+        Err(unread) => match unread {
+            Unread::Refused { fault } => Ok(Answer::Fault { fault }),
+            Unread::Memory => Err(AllocError),
+        },
     }
 }
 
@@ -43,17 +70,25 @@ fn answer_to<I: Source>(
     words: &[String],
     source: &mut I,
 ) -> Result<Answer<ScaledAmps>, AllocError>
-    ensures due { IfOk result (AnswersSource (⟦<ScaledAmps as Amps>⟧.store) (map string_bytes words.now) (I.seen source.old) (I.seen source.new)) }
+    ensures due { IfOk result (AnswersSource (⟦<ScaledAmps as Amps>⟧.store)
+        (map string_bytes words.now) (I.seen source.old) (I.seen source.new)) }
     ensures may_put { IfOk result (MayPut (⟦<ScaledAmps as Amps>⟧.store)) }
-    ensures usage { command_of (map string_bytes words.now) ≡ None → result ≡ Ok Answer.Usage }
+    ensures usage { command_of (map string_bytes words.now) ≡ None
+        → result ≡ Ok (Answer.Fault FaultLine.Usage) }
 {
     let Some(command) = command_of(words) else {
-        return Ok(Answer::Usage);
+        return Ok(Answer::Fault {
+            fault: FaultLine::Usage,
+        });
     };
     match read_all(alloc, source) {
         Ok(text) => answer_text(alloc, command, &text),
-        Err(TextError::ReadFault) => Ok(Answer::ReadFault),
-        Err(TextError::TooLong) => Ok(Answer::TooLong),
+        Err(TextError::ReadFault) => Ok(Answer::Fault {
+            fault: FaultLine::ReadFault,
+        }),
+        Err(TextError::TooLong) => Ok(Answer::Fault {
+            fault: FaultLine::TooLong,
+        }),
         Err(TextError::Memory) => Err(AllocError),
     }
 }
@@ -75,37 +110,82 @@ fn conclude<A: Amps, O: Sink>(sink: &mut O, answer: Result<Answer<A>, AllocError
 
 /// Does a command: takes its words and a source, writes what is due to the sink and flushes it, and tells how the command ended.
 ///
-/// The commands are `plain` and `sched K`, where K has 1 to 20 decimal digits and is at most 2^64 - 1; all other words are answered by
-/// `Usage`. Both read programs, give the ranks their turns until all have ended, and write the state text. Under `plain` each turn is
-/// the lowest rank's that is neither ended nor blocked, under `sched K` the one's that the seed K chooses. All memory is taken before the
-/// first byte is written.
+/// The commands are `plain`, `sched K`, `trace K`, `mono`, `mono amps` and `check`, where K has 1 to 20 decimal digits and is at most
+/// 2^64 - 1; all other words are answered by `Usage`. Each reads programs. The first three give the ranks their turns until all have ended,
+/// and write the state text: under `plain` each turn is the lowest rank's that is neither ended nor blocked, under the other two the one's
+/// that the seed K chooses, and `trace K` writes the events of the turns too. `mono` writes the text of the programs' one circuit, `mono
+/// amps` the state text of its amplitudes, and `check` the totals of the programs and whether their rendezvous run ends. All memory is
+/// taken before the first byte is written.
 pub fn tool_plain<I: Source, O: Sink>(
     alloc: Global,
     words: &[String],
     source: &mut I,
     sink: &mut O,
 ) -> Status
-    ensures ran { Ran (map string_bytes words.now) (I.seen source.old) (I.seen source.new) (O.seen sink.old) (O.seen sink.new) result }
+    ensures ran { Ran (map string_bytes words.now) (I.seen source.old) (I.seen source.new)
+        (O.seen sink.old) (O.seen sink.new) result }
 
-    // The text is all that the source had left, its programs run to their end, and the state text of that end is what the sink took.
-    ensures ended { result ≡ Status.Ok → Wrote (Under (map string_bytes words.now) EndsWith) (I.seen source.old) (I.seen source.new) (O.seen sink.old) (O.seen sink.new) }
+    // The text is all that the source had left, its programs run to their end, and the sink took the state
+    // text of that end, and the block.
+    ensures ended { (play : Play)
+        → command_of (map string_bytes words.now) ≡ Some (Command.Run play)
+        → result ≡ Status.Ok
+        → Wrote (EndsWith play)
+        (I.seen source.old) (I.seen source.new) (O.seen sink.old) (O.seen sink.new) }
 
-    // And what the sink took is the state text of the one circuit of the text's programs, which has no pairs, buffers or protocol
-    // outcomes, divided by the square root of two once for each protocol measurement.
-    ensures headline { result ≡ Status.Ok → Wrote (Under (map string_bytes words.now) IsOneCircuit) (I.seen source.old) (I.seen source.new) (O.seen sink.old) (O.seen sink.new) }
+    // And the state text is that of the one circuit of the text's programs, which has no pairs, buffers or
+    // protocol outcomes, divided by the square root of two once for each protocol measurement.
+    ensures headline { (play : Play)
+        → command_of (map string_bytes words.now) ≡ Some (Command.Run play)
+        → result ≡ Status.Ok
+        → Wrote (StatesOneCircuit play)
+        (I.seen source.old) (I.seen source.new) (O.seen sink.old) (O.seen sink.new) }
+
+    // The other commands write what is due for the text's programs.
+    ensures circuit { command_of (map string_bytes words.now) ≡ Some Command.Mono
+        → result ≡ Status.Ok
+        → Wrote (OnReady IsCircuitText)
+        (I.seen source.old) (I.seen source.new) (O.seen sink.old) (O.seen sink.new) }
+    ensures amplitudes { command_of (map string_bytes words.now) ≡ Some Command.MonoAmps
+        → result ≡ Status.Ok
+        → Wrote (OnReady IsAmplitudesText)
+        (I.seen source.old) (I.seen source.new) (O.seen sink.old) (O.seen sink.new) }
+    ensures checked { command_of (map string_bytes words.now) ≡ Some Command.Check
+        → result ≡ Status.Ok
+        → Wrote (OnReady IsCheckText)
+        (I.seen source.old) (I.seen source.new) (O.seen sink.old) (O.seen sink.new) }
 
     // Each other status has its cause.
     ensures usage { result ≡ Status.Usage → command_of (map string_bytes words.now) ≡ None }
-    ensures read_fault { result ≡ Status.ReadFault → FailedOnce (I.seen source.old) (I.seen source.new) }
+    ensures read_fault { result ≡ Status.ReadFault
+        → FailedOnce (I.seen source.old) (I.seen source.new) }
     ensures too_long { result ≡ Status.TooLong → GaveMore (I.seen source.old) (I.seen source.new) }
-    ensures refused { result ≡ Status.Refused → Wrote RefusedWith (I.seen source.old) (I.seen source.new) (O.seen sink.old) (O.seen sink.new) }
-    ensures stopped { result ≡ Status.Stopped → Wrote (Under (map string_bytes words.now) StopsWith) (I.seen source.old) (I.seen source.new) (O.seen sink.old) (O.seen sink.new) }
-    ensures write_fault { result ≡ Status.WriteFault → Rose (O.seen sink.old).faults (O.seen sink.new).faults }
+    ensures refused { result ≡ Status.Refused
+        → Wrote RefusedWith
+        (I.seen source.old) (I.seen source.new) (O.seen sink.old) (O.seen sink.new) }
+    ensures stopped { result ≡ Status.Stopped → UnderRun (map string_bytes words.now)
+        (λ play. Wrote (StopsWith play)
+        (I.seen source.old) (I.seen source.new) (O.seen sink.old) (O.seen sink.new)) }
+    ensures waits { result ≡ Status.Waits → AsksForCircuit (map string_bytes words.now)
+        × Wrote (OnReady WaitsWith)
+        (I.seen source.old) (I.seen source.new) (O.seen sink.old) (O.seen sink.new) }
+    ensures wide { result ≡ Status.Wide
+        → (command_of (map string_bytes words.now) ≡ Some Command.MonoAmps)
+        × Wrote (OnReady WideWith)
+        (I.seen source.old) (I.seen source.new) (O.seen sink.old) (O.seen sink.new) }
+    ensures letter_overflow { result ≡ Status.LetterOverflow
+        → (command_of (map string_bytes words.now) ≡ Some Command.MonoAmps)
+        × Wrote (OnReady OverflowsWith)
+        (I.seen source.old) (I.seen source.new) (O.seen sink.old) (O.seen sink.new) }
+    ensures write_fault { result ≡ Status.WriteFault
+        → Rose (O.seen sink.old).faults (O.seen sink.new).faults }
     ensures nothing { result ≡ Status.OutOfMemory → O.seen sink.new ≡ O.seen sink.old }
 
     // And each cause has its status, where no end fails and memory doesn't run out.
-    ensures no_command { command_of (map string_bytes words.now) ≡ None → (result ≡ Status.Usage) ⊎ (result ≡ Status.WriteFault) }
-    ensures exact { (text : List ℕ) (s : Status) (bytes : List ℕ) → (I.seen source.old).left ≡ Some text
+    ensures no_command { command_of (map string_bytes words.now) ≡ None
+        → (result ≡ Status.Usage) ⊎ (result ≡ Status.WriteFault) }
+    ensures exact { (text : List ℕ) (s : Status) (bytes : List ℕ)
+        → (I.seen source.old).left ≡ Some text
         → ¬ Rose (I.seen source.old).faults (I.seen source.new).faults
         → ¬ Rose (O.seen sink.old).faults (O.seen sink.new).faults
         → result ≢ Status.OutOfMemory
@@ -113,10 +193,10 @@ pub fn tool_plain<I: Source, O: Sink>(
         → (result ≡ s) × Took (O.seen sink.old) (O.seen sink.new) bytes }
 
     // A text whose programs can come to no refused event and to no stuck state is run to its end.
-    ensures complete { (text : List ℕ) → (I.seen source.old).left ≡ Some text
+    ensures complete { (play : Play) (text : List ℕ) → (I.seen source.old).left ≡ Some text
         → ¬ Rose (I.seen source.old).faults (I.seen source.new).faults
         → ¬ Rose (O.seen sink.old).faults (O.seen sink.new).faults
-        → command_of (map string_bytes words.now) ≢ None
+        → command_of (map string_bytes words.now) ≡ Some (Command.Run play)
         → length text ≤ 1048576
         → IsSure text
         → (result ≡ Status.Ok) ⊎ (result ≡ Status.OutOfMemory) }

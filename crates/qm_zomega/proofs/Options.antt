@@ -1,3 +1,4 @@
+-- Answers that are None exactly where something fails
 use Rattle.std.proofs.Common.{◌≡◌, Option, None, IsSome, ◌↔◌, true, false}
 
 false_is_not_true : false ≡ true → ⊥

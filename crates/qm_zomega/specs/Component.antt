@@ -1,3 +1,4 @@
+-- Components of numbers
 use Rattle.std.specs.Prelude.{◌≡◌, ℤ, ◌+ℤ◌}
 
 -- x is twice a whole number

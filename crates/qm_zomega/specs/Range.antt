@@ -1,3 +1,4 @@
+-- The range of the components of numbers
 use Rattle.std.specs.Prelude.{ℕ, ◌<◌, ◌^◌, ℤ, unsigned_abs}
 use Rattle.qm_zomega.specs.Numbers.{Number}
 

@@ -31,7 +31,8 @@ pub trait Numerator: Copy {
 
     /// Whether the type can hold the sum and the difference.
     fn fits(self, other: Self) -> bool
-        ensures { IsTrue result ↔ (holds (meaning self ⊕ meaning other) × holds (meaning self ⊖ meaning other)) };
+        ensures { IsTrue result
+            ↔ (holds (meaning self ⊕ meaning other) × holds (meaning self ⊖ meaning other)) };
 
     /// The sum, which the caller knows to fit.
     fn plus(self, other: Self) -> Self

@@ -11,8 +11,11 @@ use qm_zomega::Zw;
 pub fn any_with(numerators: &[Zw], place: u32, bit: bool) -> bool
     requires small { length numerators.now ≤ 2 ^ 22 }
     requires place { HasPlace (length numerators.now) place }
-    ensures yes { result ≡ true → (k : ℕ) × (k < length numerators.now) × (has_place place k ≡ bit) × (number_at numerators.now k ≢ zero_number) }
-    ensures no { result ≡ false → (k : ℕ) → k < length numerators.now → has_place place k ≡ bit → number_at numerators.now k ≡ zero_number }
+    ensures yes { result ≡ true
+        → (k : ℕ) × (k < length numerators.now) × (has_place place k ≡ bit)
+        × (number_at numerators.now k ≢ zero_number) }
+    ensures no { result ≡ false → (k : ℕ) → k < length numerators.now → has_place place k ≡ bit
+        → number_at numerators.now k ≡ zero_number }
 {
     for k in 0..numerators.len() {
         if bit_at(place, k) == bit && !numerators[k].is_zero() {
@@ -27,8 +30,11 @@ pub fn any_unequal(numerators: &[Zw], one: u32, other: u32) -> bool
     requires small { length numerators.now ≤ 2 ^ 22 }
     requires one { HasPlace (length numerators.now) one }
     requires other { HasPlace (length numerators.now) other }
-    ensures yes { result ≡ true → (k : ℕ) × (k < length numerators.now) × (has_place one k ≢ has_place other k) × (number_at numerators.now k ≢ zero_number) }
-    ensures no { result ≡ false → (k : ℕ) → k < length numerators.now → has_place one k ≢ has_place other k → number_at numerators.now k ≡ zero_number }
+    ensures yes { result ≡ true
+        → (k : ℕ) × (k < length numerators.now) × (has_place one k ≢ has_place other k)
+        × (number_at numerators.now k ≢ zero_number) }
+    ensures no { result ≡ false → (k : ℕ) → k < length numerators.now
+        → has_place one k ≢ has_place other k → number_at numerators.now k ≡ zero_number }
 {
     for k in 0..numerators.len() {
         if bit_at(one, k) != bit_at(other, k) && !numerators[k].is_zero() {

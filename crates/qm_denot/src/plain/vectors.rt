@@ -35,9 +35,12 @@ pub(crate) fn fill_had(from: &[Zw], into: &mut Vec<Zw>, place: u32) -> Result<()
     requires place { HasPlace (length from.now) place }
     requires room { length from.now ≤ vec_capacity into.old }
     ensures size { OnOk result (length into.new.items ≡ length from.now) }
-    ensures numbers { OnOk result ((k : ℕ) → k < length from.now → number_at into.new.items k ≡ had_at place (number_at from.now) k) }
-    ensures fits { IsOk result → (k : ℕ) → k < length from.now → FitsZw (had_at place (number_at from.now) k) }
-    ensures overflow { IsErr result → (k : ℕ) × (k < length from.now) × (¬ (FitsZw (had_at place (number_at from.now) k))) }
+    ensures numbers { OnOk result ((k : ℕ) → k < length from.now
+        → number_at into.new.items k ≡ had_at place (number_at from.now) k) }
+    ensures fits { IsOk result → (k : ℕ) → k < length from.now
+        → FitsZw (had_at place (number_at from.now) k) }
+    ensures overflow { IsErr result
+        → (k : ℕ) × (k < length from.now) × (¬ (FitsZw (had_at place (number_at from.now) k))) }
     ensures room { vec_capacity into.old ≤ vec_capacity into.new }
 {
     into.clear();
@@ -55,7 +58,8 @@ pub(crate) fn double(numerators: &mut Vec<Zw>)
     requires small { length numerators.old.items ≤ 2 ^ 22 }
     requires room { 2 * length numerators.old.items ≤ vec_capacity numerators.old }
     ensures size { length numerators.new.items ≡ 2 * length numerators.old.items }
-    ensures numbers { (k : ℕ) → number_at numerators.new.items k ≡ number_at numerators.old.items k }
+    ensures numbers { (k : ℕ) → number_at numerators.new.items k
+        ≡ number_at numerators.old.items k }
     ensures room { vec_capacity numerators.old ≤ vec_capacity numerators.new }
 {
     let size = numerators.len();

@@ -1,6 +1,6 @@
-use Rattle.std.proofs.Common.{◌≡◌, ◌+◌, ◌<◌, ◌≤◌, arith, length, take, drop, length-take, length-drop}
+use Rattle.std.proofs.Common.{arith}
 use Rattle.std.proofs.lemmas.List.{take_rest}
-use Rattle.qm_lex.proofs.LexLemmas.{Ahead, Ahead-start, Ahead-gap, Ahead-part, Ahead-bad, Ahead-end, line_after-le}
+use Rattle.qm_lex.proofs.LexLemmas.{Ahead-start, Ahead-gap, Ahead-part, Ahead-bad, line_after-le}
 use Rattle.qm_lex.proofs.SpanLemmas.{SpansRise-later, SpansRise-more, one_more}
 use Rattle.qm_lex.proofs.lexer.lex.Goals as goal
 

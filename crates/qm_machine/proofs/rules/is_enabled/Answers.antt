@@ -7,4 +7,5 @@ pub lacks-requires : goal.lacks-requires
 lacks-requires g c = record {
   known = rule_known c.args.input.now (facts g.A.Amps.store c.args.body.now).tables c.args.rank c.in-Some.row (sym c.in-Some.ensures) c.requires.ready;
   same = c.requires.same;
+  sizes = c.requires.sizes;
 }

@@ -1,5 +1,6 @@
+use Rattle.qm_tool.specs.declared.command.Command.TheVariants as command
 use Rattle.qm_tool.specs.declared.status.Status.TheVariants as status
-use Rattle.qm_tool.proofs.CallLaws.{Wrote-one_circuit, Ran-cause, Ran-exact, Ran-complete, Concludes-ran, Concludes-usage}
+use Rattle.qm_tool.proofs.CallLaws.{Told-of, Told-one_circuit, Told-refused, Told-stopped, Told-waits, Told-wide, Told-overflow, Ran-cause, Ran-exact, Ran-complete, Concludes-ran, Concludes-usage}
 use Rattle.qm_tool.proofs.top.tool_plain.Goals as goal
 
 pub returns : goal.returns
@@ -7,16 +8,22 @@ returns g c =
     let ran = Concludes-ran _ _ _ _ _ _ _ _ c.answer_to-answer.ensures.due c.conclude.ensures in
     record {
       ran = ran;
-      ended = Ran-cause _ _ _ _ _ _ status.Ok ran;
-      headline = λ e. Wrote-one_circuit _ _ _ _ _ (Ran-cause _ _ _ _ _ _ status.Ok ran e);
+      ended = λ play e r. Told-of _ _ _ _ _ (command.Run play) status.Ok (Ran-cause _ _ _ _ _ _ status.Ok ran r) e;
+      headline = λ play e r. Told-one_circuit _ _ _ _ _ play (Ran-cause _ _ _ _ _ _ status.Ok ran r) e;
+      circuit = λ e r. Told-of _ _ _ _ _ command.Mono status.Ok (Ran-cause _ _ _ _ _ _ status.Ok ran r) e;
+      amplitudes = λ e r. Told-of _ _ _ _ _ command.MonoAmps status.Ok (Ran-cause _ _ _ _ _ _ status.Ok ran r) e;
+      checked = λ e r. Told-of _ _ _ _ _ command.Check status.Ok (Ran-cause _ _ _ _ _ _ status.Ok ran r) e;
       usage = Ran-cause _ _ _ _ _ _ status.Usage ran;
       read_fault = Ran-cause _ _ _ _ _ _ status.ReadFault ran;
       too_long = Ran-cause _ _ _ _ _ _ status.TooLong ran;
-      refused = Ran-cause _ _ _ _ _ _ status.Refused ran;
-      stopped = Ran-cause _ _ _ _ _ _ status.Stopped ran;
+      refused = λ r. Told-refused _ _ _ _ _ (Ran-cause _ _ _ _ _ _ status.Refused ran r);
+      stopped = λ r. Told-stopped _ _ _ _ _ (Ran-cause _ _ _ _ _ _ status.Stopped ran r);
+      waits = λ r. Told-waits _ _ _ _ _ (Ran-cause _ _ _ _ _ _ status.Waits ran r);
+      wide = λ r. Told-wide _ _ _ _ _ (Ran-cause _ _ _ _ _ _ status.Wide ran r);
+      letter_overflow = λ r. Told-overflow _ _ _ _ _ (Ran-cause _ _ _ _ _ _ status.LetterOverflow ran r);
       write_fault = Ran-cause _ _ _ _ _ _ status.WriteFault ran;
       nothing = Ran-cause _ _ _ _ _ _ status.OutOfMemory ran;
       no_command = λ e. Concludes-usage _ _ _ _ _ _ _ _ (c.answer_to-answer.ensures.usage e) c.answer_to-answer.ensures.due c.conclude.ensures;
       exact = Ran-exact _ _ _ _ _ _ ran;
-      complete = Ran-complete _ _ _ _ _ _ ran;
+      complete = λ play text told read wrote. Ran-complete _ _ _ _ _ _ ran text told read wrote play;
     }

@@ -1,8 +1,11 @@
-use Rattle.std.proofs.Common.{◌∙◌, ap, refl, arith, length-set}
-use Rattle.qm_denot.specs.Wires.{has}
+use Rattle.std.proofs.Common.{◌∙◌, IsSome, ap, refl, sym, subst, arith}
+use Rattle.qm_owner.specs.declared.Place.TheVariants.{Far}
+use Rattle.qm_owner.specs.Places.{PlaceMap}
 use Rattle.qm_proto.specs.Model.Places.{FarOf}
-use Rattle.qm_machine.specs.Views.{RankView, facts, mail_of, tables_of, far_dropped_view}
-use Rattle.qm_machine.proofs.RankTables.{view_read, tables_changed, far_dropped_changed}
+use Rattle.qm_machine.specs.Views.{facts, slots_in, near_in, far_in}
+use Rattle.qm_machine.proofs.Leaving.{slots_after_far, near_after_far, far_left, shrunk_at}
+use Rattle.qm_machine.proofs.PlaceTables.{place_at}
+use Rattle.qm_machine.proofs.RankTables.{same_tables}
 use Rattle.qm_machine.proofs.Squares.{did_far_out}
 use Rattle.qm_machine.proofs.body.Body.far_out.Goals as goal
 
@@ -10,15 +13,17 @@ pub do_letter-requires-clause-may : goal.do_letter-requires-clause-may
 unfolding facts
 do_letter-requires-clause-may g c = (c.requires.can.sound.live c.args.f).1 (FarOf c.args.rank, c.requires.can.may.0.only.here)
 
-pub index_mut-requires : goal.index_mut-requires
+pub take-requires : goal.take-requires
 unfolding facts
-index_mut-requires g c = let e = c.args.self.now.ranks.ok.0 in let h = c.requires.can.known in omega arith
+take-requires g c =
+    let t = (facts g.A.Amps.store c.args.self.now).tables in
+    let es = c.args.self.now.places.placed in
+    let at = place_at t es refl refl refl c.requires.can.sound.placing c.args.f (Far c.args.rank) c.requires.can.may.0.only.here in
+    subst IsSome (sym at) refl
 
-pub drop_far-requires : goal.drop_far-requires
+pub drop_half-requires : goal.drop_half-requires
 unfolding facts
-drop_far-requires g c =
-    let read = view_read c.args.self.now.ranks.items c.from.result c.args.rank c.index_mut.result.now c.from.ensures c.requires.can.known c.index_mut.ensures.value in
-    ap (λ (x : RankView). has x.far c.args.f) read ∙ c.requires.can.may.0.only.here
+drop_half-requires g c = c.requires.can.counted.0
 
 pub overflow_add-self : goal.overflow_add-self
 unfolding facts
@@ -27,21 +32,27 @@ overflow_add-self g c = let h = c.requires.can.may.0.letter in omega arith
 pub returns : goal.returns
 unfolding facts
 returns g c =
-    let ranks = c.args.self.now.ranks.items in
-    let mail = mail_of c.args.self.now.mail in
-    let t = tables_of ranks mail in
+    let t = (facts g.A.Amps.store c.args.self.now).tables in
+    let es = c.args.self.now.places.placed in
     let r = c.args.rank in
     let f = c.args.f in
-    let old = c.index_mut.result.now in
-    let new = c.drop_far.new.self in
-    let tables =
-    tables_changed ranks mail c.from.result r old new (far_dropped_view f) c.from.ensures c.requires.can.known c.index_mut.ensures.value c.drop_far.ensures in
-    did_far_out _ _ r f c.args.m c.requires.can (g.met.A.Amps.sound c.args.self.now.amps) (tables ∙ far_dropped_changed t r f c.args.m)
+    let placing = c.requires.can.sound.placing in
+    let at = place_at t es refl refl refl placing f (Far r) c.requires.can.may.0.only.here in
+    let rest = c.take.ensures.rest in
+    let fewer = shrunk_at c.args.self.now.halves c.drop_half.new.self r c.drop_half.ensures c.requires.can.counted.0 in
+    let slots = ap (λ (m : PlaceMap). slots_in m.placed) rest ∙ slots_after_far es f r placing at in
+    let near = ap (λ (m : PlaceMap). near_in m.placed) rest ∙ near_after_far es f r placing at in
+    let far = ap (λ (m : PlaceMap). far_in m.placed) rest ∙ far_left es f r placing at in
+    did_far_out _ _ r f c.args.m c.requires.can (g.met.A.Amps.sound c.args.self.now.amps) (same_tables _ _ refl slots near far fewer.0 refl)
     (record {
       stands = c.do_letter.ensures.stands;
-      capacity = c.do_letter.ensures.capacity;
+      room = c.do_letter.ensures.capacity;
+      placing = c.take.ensures.placing;
+      slotted = ap (λ (m : PlaceMap). m.ranks) rest;
+      capacity = ap (λ (m : PlaceMap). m.capacity) rest;
+      sizes = fewer.1;
       parcels = refl;
-      ranks = length-set ranks c.from.result new;
+      ranks = refl;
       letters = refl;
       paulis = omega arith;
     })

@@ -14,5 +14,15 @@ returns g c r can =
     let m = c.args.self.now.mail in
     let mail = ap mail_of c.fill.ensures ∙ mail_changed m c.args.lane _ (known_to_fill m c.args.lane c.requires) in
     did_fill _ _ r
-    (record { store = refl; parcels = ap (λ (m : MailView). m.parcels) mail; ranks = refl; letters = refl; paulis = refl })
-    c.args.lane c.args.bits can (ap (tables_of c.args.self.now.ranks.items) mail)
+    (record {
+      store = refl;
+      placing = can.sound.placing;
+      slotted = refl;
+      capacity = refl;
+      sizes = refl;
+      parcels = ap (λ (m : MailView). m.parcels) mail;
+      ranks = refl;
+      letters = refl;
+      paulis = refl;
+    })
+    c.args.lane c.args.bits can (ap (tables_of c.args.self.now.ranks.items c.args.self.now.places.placed c.args.self.now.halves) mail)

@@ -38,7 +38,11 @@ returns-in-Ok-clause-ok g c =
     did_letter _ _ c.args.rank c.args.letter c.requires.can refl
     (record {
       stands = c.in-Ok.ensures.stands;
-      capacity = c.in-Ok.ensures.capacity;
+      room = c.in-Ok.ensures.capacity;
+      placing = c.requires.can.sound.placing;
+      slotted = refl;
+      capacity = refl;
+      sizes = refl;
       parcels = refl;
       ranks = refl;
       letters = refl;

@@ -1,6 +1,6 @@
 use Rattle.std.proofs.Common.{arith}
 use Rattle.qm_machine.specs.Views.{facts}
-use Rattle.qm_machine.proofs.RankTables.{view_read}
+use Rattle.qm_machine.proofs.RankTables.{part_read}
 use Rattle.qm_machine.proofs.body.Body.rank.Goals as goal
 
 pub index-requires : goal.index-requires
@@ -9,4 +9,4 @@ index-requires g c = let e = c.args.self.now.ranks.ok.0 in let h = c.requires in
 
 pub returns : goal.returns
 unfolding facts
-returns g c = view_read c.args.self.now.ranks.items c.from.result c.args.rank c.index.result.now c.from.ensures c.requires c.index.ensures
+returns g c = part_read c.args.self.now.ranks.items c.from.result c.args.rank c.index.result.now c.from.ensures c.requires c.index.ensures

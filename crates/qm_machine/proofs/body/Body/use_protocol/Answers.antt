@@ -1,7 +1,7 @@
-use Rattle.std.proofs.Common.{◌∙◌, ap, refl, drop, length, arith, length-set}
-use Rattle.qm_proto.specs.Model.State.{Part}
-use Rattle.qm_machine.specs.Views.{RankView, facts, mail_of, tables_of, part_view}
-use Rattle.qm_machine.proofs.RankTables.{view_read, tables_changed, part_changed}
+use Rattle.std.proofs.Common.{ℕ, ap, refl, arith, length-set, length, drop}
+use Rattle.qm_proto.specs.Model.State.{Part, Tables}
+use Rattle.qm_machine.specs.Views.{facts}
+use Rattle.qm_machine.proofs.RankTables.{part_read, parts_changed}
 use Rattle.qm_machine.proofs.Squares.{did_use}
 use Rattle.qm_machine.proofs.body.Body.use_protocol.Goals as goal
 
@@ -12,8 +12,8 @@ index_mut-requires g c = let e = c.args.self.now.ranks.ok.0 in let h = c.require
 pub use_protocol-requires : goal.use_protocol-requires
 unfolding facts
 use_protocol-requires g c =
-    let read = view_read c.args.self.now.ranks.items c.from.result c.args.rank c.index_mut.result.now c.from.ensures c.requires.known c.index_mut.ensures.value in
-    let left = ap (λ (x : RankView). length x.part.protocol) read in
+    let read = part_read c.args.self.now.ranks.items c.from.result c.args.rank c.index_mut.result.now c.from.ensures c.requires.known c.index_mut.ensures.value in
+    let left = ap (λ (x : Part). length x.protocol) read in
     let h = c.requires.may.0 in
     rw left h
 
@@ -21,11 +21,21 @@ pub returns : goal.returns
 unfolding facts
 returns g c =
     let ranks = c.args.self.now.ranks.items in
-    let mail = mail_of c.args.self.now.mail in
+    let t = (facts g.A.Amps.store c.args.self.now).tables in
     let r = c.args.rank in
-    let old = c.index_mut.result.now in
-    let new = c.use_protocol.new.self in
     let change = λ (x : Part). record x { protocol = drop 1 x.protocol } in
-    did_use _ _ r (record { store = refl; parcels = refl; ranks = length-set ranks c.from.result new; letters = refl; paulis = refl }) c.requires
-    (tables_changed ranks mail c.from.result r old new (part_view change) c.from.ensures c.requires.known c.index_mut.ensures.value c.use_protocol.ensures
-    ∙ part_changed (tables_of ranks mail) r change)
+    let with : (ℕ → Part) → Tables = λ parts. record t { parts = parts } in
+    did_use _ _ r
+    (record {
+      store = refl;
+      placing = c.requires.sound.placing;
+      slotted = refl;
+      capacity = refl;
+      sizes = refl;
+      parcels = refl;
+      ranks = length-set ranks c.from.result c.use_protocol.new.self;
+      letters = refl;
+      paulis = refl;
+    })
+    c.requires
+    (ap with (parts_changed ranks c.from.result r c.index_mut.result.now c.use_protocol.new.self change c.from.ensures c.requires.known c.index_mut.ensures.value c.use_protocol.ensures))

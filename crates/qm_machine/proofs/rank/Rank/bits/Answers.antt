@@ -2,7 +2,7 @@ use Rattle.std.proofs.Common.{◌≤◌, ◌<◌, ◌-◌, ◌^◌, drop, length
 use mir.Val.{bool_byte}
 use Rattle.std.proofs.Math.ListN.{drop_of_length-le}
 use Rattle.qm_machine.specs.Views.{number_of_bits}
-use Rattle.qm_machine.proofs.RankViews.{number_of_bits-below}
+use Rattle.qm_machine.proofs.BitNumbers.{number_of_bits-below}
 use Rattle.qm_machine.proofs.rank.Rank.bits.Goals as goal
 
 -- a bit as a number

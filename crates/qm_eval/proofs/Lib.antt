@@ -1,0 +1,9 @@
+pub mod ListLemmas
+pub mod LiveLemmas
+pub mod RoomLemmas
+pub mod StepLemmas
+pub mod RunLemmas
+pub mod EndLemmas
+pub mod OverflowLemmas
+pub mod LetterLemmas
+pub mod CircuitLemmas

@@ -1,0 +1,4 @@
+pub mod Overflows
+pub mod Holding
+pub mod Laws
+pub mod Live

@@ -1,0 +1,15 @@
+pub mod TextLemmas
+pub mod StackLemmas
+pub mod DraftLemmas
+pub mod WalkLemmas
+pub mod SizeLemmas
+pub mod OutcomeLemmas
+pub mod ProgramLemmas
+pub mod StepLemmas
+pub mod SignLemmas
+pub mod ExprWalk
+pub mod BodyWalk
+pub mod TapeLemmas
+pub mod TreeWalk
+pub mod OneReading
+pub mod ReadLemmas

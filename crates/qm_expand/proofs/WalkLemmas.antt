@@ -1,0 +1,99 @@
+-- One step of a walk
+use Rattle.std.proofs.Common.{◌≡◌, ◌∙◌, ℕ, zero, suc, ◌+◌, ◌-◌, ◌<◌, ◌≤◌, ℤ, pos, ◌+ℤ◌, List, [], ◌∷◌, ◌++◌, Ok, length, take, drop, refl, sym, ap, arith, length-take, length-drop}
+use Rattle.std.proofs.lemmas.Int.{ints}
+use Rattle.std.proofs.lemmas.List.{map-append}
+use Rattle.qm_lex.specs.declared.tokens.Token.{Token}
+use Rattle.qm_parse.specs.declared.tree.Node.{Node}
+use Rattle.qm_expand.specs.declared.values.Scope as code_scope
+use Rattle.qm_expand.specs.declared.values.Binding as code_binding
+use Rattle.qm_expand.specs.Views.{scope_of, names_in, name_in}
+use Rattle.qm_expand.specs.Steps.{Outcome, ◌>>=◌}
+use Rattle.qm_expand.specs.Values.{Scope}
+use Rattle.qm_expand.specs.Drafts.{Draft, with_turn}
+use Rattle.qm_expand.specs.Expansion.{Lines, each_turn, turn_count, inside}
+use Rattle.qm_expand.specs.Walk.{Bytes, Walking, Valued, bytes_in, own_len, walk, stepped, looped, value_at}
+
+-- a walk whose bound is m, as its first step and the rest
+pub record Stepped (bytes : Bytes) (lines : Lines) (m : ℕ) (s : Scope) (number : ℕ) (rest : List Node) (node : Node) (own next : List Node) (len : ℕ) (d : Draft) : Type 0 where
+  pub k : ℕ
+  pub own_fits : length own ≤ k
+  pub next_fits : length next ≤ k
+  pub same : walk bytes lines m s number rest d
+      ≡ (stepped bytes lines (walk bytes lines k) s (number + 1) node own d >>= λ e. walk bytes lines k s (number + 1 + len) next e)
+
+module _ (bytes : Bytes) (lines : Lines) (s : Scope) (number : ℕ) (rest : List Node) (node : Node) (behind own next : List Node) (len : ℕ)
+    (is : rest ≡ node ∷ behind) (own_is : own ≡ take len behind) (next_is : next ≡ drop len behind) (len_is : len ≡ own_len node (number + 1) (length behind)) where
+  pub walk-step : (m : ℕ) (d : Draft) → length rest ≤ m → Stepped bytes lines m s number rest node own next len d
+  walk-step m d fits = by_bound m (let l = ap length is in omega arith)
+    where
+      by_bound : (m : ℕ) → suc (length behind) ≤ m → Stepped bytes lines m s number rest node own next len d
+      by_bound zero h = absurd (omega arith)
+      by_bound (suc k) h = record {
+        k = k;
+        own_fits = (let l = ap length own_is ∙ length-take len behind in omega arith);
+        next_fits = (let l = ap length next_is ∙ length-drop len behind in omega arith);
+        same =
+            ap (λ xs. walk bytes lines (suc k) s number xs d) is
+            ∙ ap (λ l. stepped bytes lines (walk bytes lines k) s (number + 1) node (take l behind) d >>= λ e. walk bytes lines k s (number + 1 + l) (drop l behind) e) (sym len_is)
+            ∙ ap (λ xs. stepped bytes lines (walk bytes lines k) s (number + 1) node xs d >>= λ e. walk bytes lines k s (number + 1 + len) (drop len behind) e) (sym own_is)
+            ∙ ap (λ xs. stepped bytes lines (walk bytes lines k) s (number + 1) node own d >>= λ e. walk bytes lines k s (number + 1 + len) xs e) (sym next_is);
+      }
+
+pub walk-nil : (bytes : Bytes) (lines : Lines) (m : ℕ) (s : Scope) (number : ℕ) (d : Draft) → walk bytes lines m s number [] d ≡ Ok d
+walk-nil bytes lines zero s number d = refl
+walk-nil bytes lines (suc m) s number d = refl
+
+-- ---- loops
+pub looped-turns : (bytes : Bytes) (lines : Lines) (body : Walking) (s : Scope) (number : ℕ) (node : Node) (own : List Node) (d : Draft) (a b : Valued)
+    → value_at bytes (lines node.token) s own ≡ Ok a → value_at bytes (lines node.token) s (drop a.used own) ≡ Ok b
+    → looped bytes lines body s number node own d
+    ≡ each_turn (lines node.token) (λ i e. body (inside s (bytes (node.token + 1)) i) (number + a.used + b.used) (drop b.used (drop a.used own)) e) (turn_count a.value b.value) a.value d
+looped-turns bytes lines body s number node own d a b first end =
+    ap (λ o. o >>= λ x. value_at bytes (lines node.token) s (drop x.used own)
+    >>= λ y. each_turn (lines node.token) (λ i e. body (inside s (bytes (node.token + 1)) i) (number + x.used + y.used) (drop y.used (drop x.used own)) e) (turn_count x.value y.value) x.value d) first
+    ∙ ap (λ o. o >>= λ y. each_turn (lines node.token) (λ i e. body (inside s (bytes (node.token + 1)) i) (number + a.used + y.used) (drop y.used (drop a.used own)) e) (turn_count a.value y.value) a.value d) end
+
+module _ (line : ℕ) (body : ℤ → Draft → Outcome Draft) (count k : ℕ) (a : ℤ) (d : Draft) where
+  pub each_turn-more : k < count → each_turn line body (count - k) (a +ℤ pos k) d
+      ≡ (with_turn line d >>= λ e. body (a +ℤ pos k) e >>= λ f. each_turn line body (count - (k + 1)) (a +ℤ pos (k + 1)) f)
+  each_turn-more low =
+      let left : count - k ≡ suc (count - (k + 1)) = omega arith in
+      let next : (a +ℤ pos k) +ℤ pos 1 ≡ a +ℤ pos (k + 1) = omega (arith, ints) in
+      ap (λ n. each_turn line body n (a +ℤ pos k) d) left
+      ∙ ap (λ z. with_turn line d >>= λ e. body (a +ℤ pos k) e >>= λ f. each_turn line body (count - (k + 1)) z f) next
+
+  pub each_turn-none : count ≤ k → each_turn line body (count - k) (a +ℤ pos k) d ≡ Ok d
+  each_turn-none high = let none : count - k ≡ 0 = omega arith in ap (λ n. each_turn line body n (a +ℤ pos k) d) none
+
+pub scope_inside : (text : List ℕ) (tokens : List Token) (scope : code_scope.Scope) (names items : List code_binding.Binding) (name : code_binding.Binding)
+    → items ≡ names ++ name ∷ []
+    → scope_of scope (names_in text tokens items) ≡ inside (scope_of scope (names_in text tokens names)) (bytes_in text tokens name.token) name.value
+scope_inside text tokens scope names items name e =
+    ap (λ xs. scope_of scope xs) (ap (names_in text tokens) e ∙ map-append (name_in text tokens) names (name ∷ []))
+
+-- a loop, from the slices that are walked
+pub looped-at : (bytes : Bytes) (lines : Lines) (body : Walking) (s : Scope) (number : ℕ) (node : Node) (own rest inner : List Node) (d : Draft) (a b : Valued) (line : ℕ)
+    → line ≡ lines node.token → rest ≡ drop a.used own → inner ≡ drop b.used rest
+    → value_at bytes line s own ≡ Ok a → value_at bytes line s rest ≡ Ok b
+    → looped bytes lines body s number node own d
+    ≡ each_turn line (λ i e. body (inside s (bytes (node.token + 1)) i) (number + a.used + b.used) inner e) (turn_count a.value b.value) a.value d
+looped-at bytes lines body s number node own rest inner d a b line on rest_is inner_is first end =
+    looped-turns bytes lines body s number node own d a b
+    (ap (λ l. value_at bytes l s own) (sym on) ∙ first)
+    (ap (λ l. value_at bytes l s (drop a.used own)) (sym on) ∙ ap (value_at bytes line s) (sym rest_is) ∙ end)
+    ∙ ap (λ l. each_turn l (λ i e. body (inside s (bytes (node.token + 1)) i) (number + a.used + b.used) (drop b.used (drop a.used own)) e) (turn_count a.value b.value) a.value d) (sym on)
+    ∙ ap (λ xs. each_turn line (λ i e. body (inside s (bytes (node.token + 1)) i) (number + a.used + b.used) xs e) (turn_count a.value b.value) a.value d)
+    (sym (inner_is ∙ ap (drop b.used) rest_is))
+
+-- the turn k of a loop is counted, and then its body is walked
+pub turned-body : (line : ℕ) (body : Scope → Draft → Outcome Draft) (inner_scope : ℤ → Scope) (count k : ℕ) (a : ℤ) (d e : Draft) (r : Scope)
+    → k < count → with_turn line d ≡ Ok e → r ≡ inner_scope (a +ℤ pos k)
+    → each_turn line (λ i f. body (inner_scope i) f) (count - k) (a +ℤ pos k) d
+    ≡ (body r e >>= λ f. each_turn line (λ i f. body (inner_scope i) f) (count - (k + 1)) (a +ℤ pos (k + 1)) f)
+turned-body line body inner_scope count k a d e r low counted is =
+    each_turn-more line (λ i f. body (inner_scope i) f) count k a d low
+    ∙ ap (λ o. o >>= λ e. body (inner_scope (a +ℤ pos k)) e >>= λ f. each_turn line (λ i f. body (inner_scope i) f) (count - (k + 1)) (a +ℤ pos (k + 1)) f) counted
+    ∙ ap (λ t. body t e >>= λ f. each_turn line (λ i f. body (inner_scope i) f) (count - (k + 1)) (a +ℤ pos (k + 1)) f) (sym is)
+
+pub same_Ok : {A : Type 0} (x y : A) → ◌≡◌ {A = Outcome A} (Ok x) (Ok y) → x ≡ y
+same_Ok x y e = grind arith

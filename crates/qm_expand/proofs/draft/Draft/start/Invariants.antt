@@ -1,0 +1,6 @@
+use Rattle.std.proofs.Common.{◌≡◌}
+use Rattle.qm_expand.proofs.SizeLemmas.{sized_upto}
+use Rattle.qm_expand.proofs.draft.Draft.start.Given as goal
+
+abbrev pub invariant-loop-rank : goal.invariant-loop-rank
+invariant-loop-rank l = l.input ≡ sized_upto l.qubits l.buffer l.rank l.ranks

@@ -1,0 +1,45 @@
+use Rattle.std.proofs.Common.{◌≡◌, ℕ, ◌+◌, ◌*◌, ◌-◌, ◌≤◌, ◌+ℤ◌, pos, length}
+use Rattle.qm_lex.specs.Lexing.{token_list}
+use Rattle.qm_expand.specs.Expansion.{turn_count, each_turn, inside}
+use Rattle.qm_expand.specs.Reading.{lines_of}
+use Rattle.qm_expand.specs.Walk.{bytes_in, walk}
+use Rattle.qm_expand.specs.Views.{names_in, scope_of, draft_seen}
+use Rattle.qm_expand.proofs.walk.+walk.Given as goal
+
+abbrev pub decreases-body : goal.decreases-body
+decreases-body l = 3 * length l.nodes.now
+
+abbrev pub decreases-step : goal.decreases-step
+decreases-step l = 3 * length l.own.now + 2
+
+abbrev pub decreases-turn_loop : goal.decreases-turn_loop
+decreases-turn_loop l = 3 * length l.own.now + 1
+
+abbrev pub decreases-body-loop-rest : goal.decreases-body-loop-rest
+decreases-body-loop-rest l = length l.rest
+
+abbrev pub invariant-body-loop-rest : goal.invariant-body-loop-rest
+invariant-body-loop-rest l =
+    let bytes = bytes_in l.text (token_list l.tokens) in
+    let lines = lines_of (token_list l.tokens) in
+    let s = scope_of l.scope (names_in l.text (token_list l.tokens) l.names) in
+    record {
+      from : l.number ≤ l.at;
+      few : l.at + length l.rest ≡ l.number + length l.nodes;
+      ranks : length l.draft.input.ranks ≡ length l.fn.draft.input.ranks;
+      walked : (n : ℕ) → length l.nodes ≤ n
+          → (m : ℕ) × (length l.rest ≤ m) × (walk bytes lines m s l.at l.rest (draft_seen l.draft) ≡ walk bytes lines n s l.number l.nodes (draft_seen l.fn.draft));
+    }
+
+abbrev pub invariant-turn_loop-loop-k : goal.invariant-turn_loop-loop-k
+invariant-turn_loop-loop-k l =
+    let bytes = bytes_in l.text (token_list l.tokens) in
+    let lines = lines_of (token_list l.tokens) in
+    let s = scope_of l.scope (names_in l.text (token_list l.tokens) l.names) in
+    let count = turn_count l.first.value l.end.value in
+    record {
+      ranks : length l.draft.input.ranks ≡ length l.fn.draft.input.ranks;
+      turned : (n : ℕ) → length l.own ≤ n
+          → each_turn l.line (λ i e. walk bytes lines n (inside s (bytes (l.node.token + 1)) i) l.start l.inner e) (count - l.k) (l.first.value +ℤ pos l.k) (draft_seen l.draft)
+          ≡ each_turn l.line (λ i e. walk bytes lines n (inside s (bytes (l.node.token + 1)) i) l.start l.inner e) count l.first.value (draft_seen l.fn.draft);
+    }

@@ -1,0 +1,9 @@
+pub mod Steps
+pub mod Values
+pub mod Table
+pub mod Drafts
+pub mod Expansion
+pub mod Reading
+pub mod Laws
+pub mod Walk
+pub mod Views

@@ -1,0 +1,163 @@
+//! The programs as far as they are expanded.
+
+ghost use Rattle.std.specs.Prelude.{◌≡◌};
+ghost use Rattle.qm_instr.specs.Programs.{instruction_total};
+
+use crate::ReadError;
+use crate::ranges::{can_be_called, has_operands};
+use crate::values::Scope;
+use qm_collect::{Collective, count, instr_at};
+use qm_instr::{Input, Instr};
+use std::alloc::{AllocError, Global};
+
+/// How many instructions all ranks may have together.
+const MOST_INSTRUCTIONS: u32 = 100_000;
+
+/// How many turns the loops of all ranks may have together.
+const MOST_TURNS: u32 = 1_000_000;
+
+/// How many outcomes a tape may have.
+const MOST_OUTCOMES: usize = 1_048_576;
+
+/// The programs as far as they are expanded, and how many turns all loops have had.
+#[derive(Drop)]
+pub(crate) struct Draft {
+    pub(crate) input: Input,
+    /// How many instructions there are.
+    count: u32,
+    turns: u32,
+    ghost counted: { count ≡ instruction_total input },
+}
+
+impl Draft {
+    ghost use Rattle.std.specs.Prelude.{◌<◌, ◌≤◌, ◌==◌, [], ◌∷◌, IfOk, Ok, OnOk, length, map};
+    ghost use Rattle.qm_instr.specs.Programs.{rank_of};
+    ghost use Rattle.qm_expand.specs.Drafts.{draft, with_made, with_turn, with_outcomes};
+    ghost use Rattle.qm_expand.specs.Walk.{Answers, shared, sized_programs, tape_of, appended};
+    ghost use Rattle.qm_expand.specs.Views.{draft_seen};
+
+    /// Ranks without instructions, all with as many slots and buffers of one size.
+    pub(crate) fn start(
+        alloc: Global,
+        ranks: u16,
+        qubits: u8,
+        buffer: u8,
+    ) -> Result<Draft, AllocError>
+        requires some_ranks { 1 ≤ ranks }
+        requires few_ranks { ranks ≤ 16 }
+        requires some_qubits { 1 ≤ qubits }
+        requires few_qubits { qubits ≤ 16 }
+        requires some_buffer { 1 ≤ buffer }
+        requires small_buffer { buffer ≤ 8 }
+        ensures { IfOk result (λ d. draft_seen d ≡ draft (sized_programs ranks qubits buffer) 0) }
+    {
+        let mut input = Input::start(alloc, 1, ranks)?;
+        for rank in 0..ranks {
+            input.size(rank, qubits, buffer);
+        }
+        Ok(Draft {
+            input,
+            count: 0,
+            turns: 0,
+        })
+    }
+
+    /// Appends an instruction to a rank's program.
+    pub(crate) fn add(&mut self, line: u32, rank: u16, i: Instr) -> Result<(), ReadError>
+        requires { rank < length self.old.input.ranks }
+        ensures answers { Answers (λ _. draft_seen self.new) result (with_made line rank i (draft_seen self.old)) }
+        ensures ranks { length self.new.input.ranks ≡ length self.old.input.ranks }
+    {
+        if !has_operands(self.input.qubits(rank), i) {
+            return Err(ReadError::OutOfRange { line });
+        }
+        if self.count >= MOST_INSTRUCTIONS {
+            return Err(ReadError::TooMany { line });
+        }
+        let Ok(()) = self.input.push(rank, i) else {
+            return Err(ReadError::Memory);
+        };
+        self.count += 1;
+        Ok(())
+    }
+
+    /// Appends the instructions of a collective.
+    pub(crate) fn share(
+        &mut self,
+        line: u32,
+        scope: Scope,
+        which: Collective,
+    ) -> Result<(), ReadError>
+        requires rank { scope.rank < scope.ranks }
+        requires ranks { scope.ranks ≡ length self.old.input.ranks }
+        ensures answers { Answers (λ _. draft_seen self.new) result (shared line scope.rank scope.ranks which (draft_seen self.old)) }
+        ensures ranks { length self.new.input.ranks ≡ length self.old.input.ranks }
+    {
+        let ranks = self.input.ranks();
+        if !can_be_called(ranks, which) {
+            return Err(ReadError::OutOfRange { line });
+        }
+        for j in 0..count(which, scope.rank, ranks) {
+            if let Some(i) = instr_at(which, scope.rank, ranks, j) {
+                self.add(line, scope.rank, i)?;
+            }
+        }
+        Ok(())
+    }
+
+    /// Counts a turn of a loop.
+    pub(crate) fn turn(&mut self, line: u32) -> Result<(), ReadError>
+        ensures answers { Answers (λ _. draft_seen self.new) result (with_turn line (draft_seen self.old)) }
+        ensures ranks { length self.new.input.ranks ≡ length self.old.input.ranks }
+    {
+        if self.turns >= MOST_TURNS {
+            return Err(ReadError::TooMany { line });
+        }
+        self.turns += 1;
+        Ok(())
+    }
+
+    /// Appends outcomes, each a digit 0 or 1, to a tape.
+    pub(crate) fn append(
+        &mut self,
+        line: u32,
+        own: bool,
+        rank: u16,
+        digits: &[u8],
+    ) -> Result<(), ReadError>
+        requires { rank < length self.old.input.ranks }
+        ensures answers { Answers (λ _. self.new.input) result (appended line own rank (map (λ d. d == 49) digits.now) self.old.input) }
+        ensures ranks { OnOk result (length self.new.input.ranks ≡ length self.old.input.ranks) }
+    {
+        let long = if own {
+            self.input.own(rank).len()
+        } else {
+            self.input.protocol(rank).len()
+        };
+        if long + digits.len() > MOST_OUTCOMES {
+            return Err(ReadError::TooMany { line });
+        }
+        for digit in digits {
+            self.push_outcome(own, rank, *digit == b'1')?;
+        }
+        Ok(())
+    }
+
+    /// Appends an outcome to a tape.
+    fn push_outcome(&mut self, own: bool, rank: u16, outcome: bool) -> Result<(), ReadError>
+        requires rank { rank < length self.old.input.ranks }
+        requires room { length (tape_of own (rank_of self.old.input rank)) < 1048576 }
+        ensures answers { Answers (λ _. self.new.input) result (Ok (with_outcomes own rank (outcome ∷ []) self.old.input)) }
+        ensures total { instruction_total self.new.input ≡ instruction_total self.old.input }
+    {
+        let pushed = if own {
+            self.input.push_own(rank, outcome)
+        } else {
+            self.input.push_protocol(rank, outcome)
+        };
+        match pushed {
+            Ok(()) => Ok(()),
+            Err(_) => Err(ReadError::Memory),
+        }
+    }
+}

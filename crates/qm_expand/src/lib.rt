@@ -1,0 +1,52 @@
+//! Program texts, read to the programs of all ranks.
+#![tactic(auto)]
+
+mod draft;
+mod laws;
+mod made;
+mod operands;
+mod program;
+mod ranges;
+mod reading;
+mod values;
+mod walk;
+mod words;
+
+pub use laws::one_reading;
+pub use reading::read;
+
+#[cfg(test)]
+mod tests;
+
+use thiserror::Error;
+
+/// Why a text has no programs: the first fault of all, by its line.
+#[derive(Clone, Copy, Debug, PartialEq, Eq, Error)]
+pub enum ReadError {
+    /// A byte with which no token begins, outside comments.
+    #[error("line {line}: a byte that may not stand there")]
+    BadByte { line: u32 },
+    /// A token that may not stand there, or a number outside the range of its place.
+    #[error("line {line}: a token that may not stand there")]
+    Unexpected { line: u32 },
+    /// A number above 2,147,483,647 where a number may stand.
+    #[error("line {line}: a number that is too large")]
+    NumberTooLarge { line: u32 },
+    /// A `{` or a `(` where one may stand, but 32 are open.
+    #[error("line {line}: too many open braces and parentheses")]
+    TooDeep { line: u32 },
+    /// The text ends before the program does.
+    #[error("line {line}: the text ends too early")]
+    Unended { line: u32 },
+    /// A name that no loop around it has.
+    #[error("line {line}: a name that no loop has")]
+    UnknownName { line: u32 },
+    /// An intermediate result outside plus or minus 2,147,483,647, a division by zero, or an operand outside its range.
+    #[error("line {line}: a value outside its range")]
+    OutOfRange { line: u32 },
+    /// The 100,001st instruction, or the 1,000,001st turn of a loop, over all ranks.
+    #[error("line {line}: too many instructions or turns of loops")]
+    TooMany { line: u32 },
+    #[error("out of memory")]
+    Memory,
+}

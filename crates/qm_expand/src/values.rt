@@ -1,0 +1,182 @@
+//! The values of expressions and operands.
+
+ghost use Rattle.std.specs.Prelude.{◌≡◌, ◌≤◌, ◌<◌, [], IfOk, length, reverse};
+ghost use Rattle.qm_lex.specs.Lexing.{token_list};
+ghost use Rattle.qm_lex.specs.Spans.{LieIn};
+ghost use Rattle.qm_expand.specs.Values.{bound, ranged, result_of, computed, within, limit};
+ghost use Rattle.qm_expand.specs.Walk.{Answers, bytes_in, pushed, value_at};
+ghost use Rattle.qm_expand.specs.Views.{scope_of, names_in, value_seen, IsPushed};
+
+use crate::ReadError;
+use crate::words::bytes;
+use qm_lex::Tokens;
+use qm_parse::{Node, Operand, What};
+use std::alloc::Global;
+
+/// The largest absolute value of an intermediate result.
+const MOST: u128 = 2_147_483_647;
+
+/// The rank that is expanded, the number of ranks, and the rank's slots.
+#[derive(Clone, Copy)]
+pub(crate) struct Scope {
+    pub(crate) rank: u16,
+    pub(crate) ranks: u16,
+    pub(crate) qubits: u8,
+}
+
+/// The value of a loop's name in one of its turns; the name is a token of the text.
+#[derive(Clone, Copy)]
+pub(crate) struct Binding {
+    pub(crate) token: usize,
+    pub(crate) value: i64,
+}
+
+/// The value of an expression, and how many nodes it has with its end.
+#[derive(Clone, Copy)]
+pub(crate) struct Valued {
+    pub(crate) value: i64,
+    pub(crate) used: usize,
+}
+
+/// The value of the expression at the front of these nodes; its faults have this line.
+pub(crate) fn value(
+    alloc: Global,
+    text: &[u8],
+    tokens: &Tokens,
+    scope: Scope,
+    names: &[Binding],
+    line: u32,
+    nodes: &[Node],
+) -> Result<Valued, ReadError>
+    requires { LieIn text.now (token_list tokens.now) }
+    ensures answers { Answers value_seen result
+        (value_at (bytes_in text.now (token_list tokens.now)) line (scope_of scope (names_in text.now (token_list tokens.now) names.now)) nodes.now) }
+    ensures used { IfOk result (λ v. v.used ≤ length nodes.now) }
+{
+    let mut stack = Vec::new(alloc);
+    let mut used = 0;
+    while used < nodes.len() {
+        let node = nodes[used];
+        used += 1;
+        if node.what == What::Arg {
+            return match stack.pop() {
+                Some(value) => Ok(Valued { value, used }),
+                None => Err(ReadError::OutOfRange { line }),
+            };
+        }
+        let value = node_value(text, tokens, scope, names, line, node, &mut stack)?;
+        let Ok(()) = stack.push(value) else {
+            return Err(ReadError::Memory);
+        };
+    }
+    Err(ReadError::OutOfRange { line })
+}
+
+/// The value of a node; an operator takes its two sides from the stack.
+fn node_value(
+    text: &[u8],
+    tokens: &Tokens,
+    scope: Scope,
+    names: &[Binding],
+    line: u32,
+    node: Node,
+    stack: &mut Vec<i64>,
+) -> Result<i64, ReadError>
+    requires { LieIn text.now (token_list tokens.now) }
+    ensures { IsPushed (reverse stack.new.items) result
+        (pushed (bytes_in text.now (token_list tokens.now)) line (scope_of scope (names_in text.now (token_list tokens.now) names.now))
+        node.what node.token node.value (reverse stack.old.items)) }
+{
+    match node.what {
+        What::Num => ranged(line, i128::from(node.value)),
+        What::Rank => ranged(line, i128::from(scope.rank)),
+        What::Size => ranged(line, i128::from(scope.ranks)),
+        What::Name => match bound(text, tokens, names, node.token as usize) {
+            Some(value) => ranged(line, i128::from(value)),
+            None => Err(ReadError::UnknownName { line }),
+        },
+        op => match stack.pop() {
+            None => Err(ReadError::OutOfRange { line }),
+            Some(right) => match stack.pop() {
+                None => Err(ReadError::OutOfRange { line }),
+                Some(left) => compute(line, op, left, right),
+            },
+        },
+    }
+}
+
+/// The value of a name: that of the innermost loop that has it.
+fn bound(text: &[u8], tokens: &Tokens, names: &[Binding], token: usize) -> Option<i64>
+    requires { LieIn text.now (token_list tokens.now) }
+    ensures { result ≡ bound (names_in text.now (token_list tokens.now) names.now) (bytes_in text.now (token_list tokens.now) token) }
+{
+    let name = bytes(text, tokens, token);
+    let mut found = None;
+    for binding in names {
+        if bytes(text, tokens, binding.token) == name {
+            found = Some(binding.value);
+        }
+    }
+    found
+}
+
+/// What an operator makes of its two sides.
+fn compute(line: u32, op: What, left: i64, right: i64) -> Result<i64, ReadError>
+    ensures { Answers (λ z. z) result (computed line op left right) }
+{
+    match result_of(op, left, right) {
+        Some(value) => ranged(line, value),
+        None => Err(ReadError::OutOfRange { line }),
+    }
+}
+
+/// The result of an operator; none where it divides by zero.
+fn result_of(op: What, left: i64, right: i64) -> Option<i128>
+    ensures { result ≡ result_of op left right }
+{
+    let (left, right) = (i128::from(left), i128::from(right));
+    match op {
+        What::Plus => Some(left + right),
+        What::Minus => Some(left - right),
+        What::Times => Some(left * right),
+        What::Over => { if right == 0 { None } else { Some(left / right) } }
+        What::Rest => { if right == 0 { None } else { Some(left % right) } }
+        _ => None,
+    }
+}
+
+/// An intermediate result, unless it leaves the range.
+fn ranged(line: u32, value: i128) -> Result<i64, ReadError>
+    ensures { Answers (λ z. z) result (ranged line value) }
+{
+    if value.unsigned_abs() <= MOST {
+        Ok(value as i64)
+    } else {
+        Err(ReadError::OutOfRange { line })
+    }
+}
+
+/// A value from 0 up to the one before the limit.
+pub(crate) fn within(line: u32, limit: u32, value: i64) -> Result<u32, ReadError>
+    ensures answers { Answers (λ n. n) result (within line limit value) }
+    ensures below { IfOk result (λ n. n < limit) }
+{
+    if 0 <= value && value < i64::from(limit) {
+        Ok(value as u32)
+    } else {
+        Err(ReadError::OutOfRange { line })
+    }
+}
+
+/// What each operand of a kind is below.
+pub(crate) fn limit(scope: Scope, kind: Operand) -> u32
+    ensures { result ≡ limit (scope_of scope []) kind }
+{
+    match kind {
+        Operand::Slot => u32::from(scope.qubits),
+        Operand::Bit => 32,
+        Operand::Truth => 2,
+        Operand::Root => u32::from(scope.ranks),
+        Operand::Peer | Operand::Tag => 65_536,
+    }
+}

@@ -1,0 +1,286 @@
+//! The walk over the nodes of a source tree.
+
+ghost use Rattle.std.specs.Prelude.{◌≡◌, ◌+◌, ◌+ℤ◌, ◌<◌, ◌≤◌, ◌^◌, pos, ℕ, [], ◌∷◌, ◌++◌, length, take, drop, Ok, OnOk};
+ghost use Rattle.qm_lex.specs.Lexing.{token_list};
+ghost use Rattle.qm_lex.specs.Spans.{LieIn};
+ghost use Rattle.qm_expand.specs.Expansion.{turn_count};
+ghost use Rattle.qm_expand.specs.Reading.{lines_of};
+ghost use Rattle.qm_expand.specs.Walk.{Answers, bytes_in, own_len, walk, stepped, looped, called, gated};
+ghost use Rattle.qm_expand.specs.Views.{scope_of, names_in, draft_seen};
+
+use crate::ReadError;
+use crate::draft::Draft;
+use crate::made::{Made, gate_made, make, small};
+use crate::operands::gather;
+use crate::values::{Binding, Scope, Valued, value};
+use crate::words::{line, verb};
+use qm_instr::Instr;
+use qm_lex::Tokens;
+use qm_parse::{Node, What};
+use std::alloc::Global;
+
+/// How many of the nodes behind a node belong to it; the first of them has this number.
+pub(crate) fn own_len(node: Node, number: usize, rest: usize) -> usize
+    ensures value { result ≡ own_len node number rest }
+    ensures few { result ≤ rest }
+{
+    (node.stop as usize).saturating_sub(number).min(rest)
+}
+
+/// The first of some nodes.
+pub(crate) fn first_of(nodes: &[Node]) -> Node
+    requires { 0 < length nodes.now }
+    ensures { nodes.now ≡ result ∷ drop 1 nodes.now }
+{
+    nodes[0]
+}
+
+/// So many nodes from the front.
+pub(crate) fn upto(nodes: &[Node], count: usize) -> &[Node]
+    requires { count ≤ length nodes.now }
+    ensures { result.now ≡ take count nodes.now }
+{
+    &nodes[..count]
+}
+
+/// The nodes behind so many.
+pub(crate) fn after(nodes: &[Node], count: usize) -> &[Node]
+    requires { count ≤ length nodes.now }
+    ensures { result.now ≡ drop count nodes.now }
+{
+    &nodes[count..]
+}
+
+/// Expands a body; its nodes have numbers from `number` on.
+#[cycle(walk)]
+pub(crate) fn body(
+    alloc: Global,
+    text: &[u8],
+    tokens: &Tokens,
+    scope: Scope,
+    names: &[Binding],
+    number: usize,
+    nodes: &[Node],
+    draft: &mut Draft,
+) -> Result<(), ReadError>
+    requires lie { LieIn text.now (token_list tokens.now) }
+    requires rank { scope.rank < scope.ranks }
+    requires ranks { scope.ranks ≡ length draft.old.input.ranks }
+    requires few { number + length nodes.now < 2 ^ 40 }
+    ensures answers { (n : ℕ) → length nodes.now ≤ n → Answers (λ _. draft_seen draft.new) result
+        (walk (bytes_in text.now (token_list tokens.now)) (lines_of (token_list tokens.now)) n (scope_of scope (names_in text.now (token_list tokens.now) names.now)) number nodes.now (draft_seen draft.old)) }
+    ensures ranks { OnOk result (length draft.new.input.ranks ≡ length draft.old.input.ranks) }
+{
+    let mut rest = nodes;
+    let mut at = number;
+    while !rest.is_empty() {
+        let node = first_of(rest);
+        let behind = after(rest, 1);
+        at += 1;
+        let len = own_len(node, at, behind.len());
+        let own = upto(behind, len);
+        step(alloc, text, tokens, scope, names, at, node, own, draft)?;
+        at += len;
+        rest = after(behind, len);
+    }
+    Ok(())
+}
+
+/// Expands an instruction, a collective or a loop, which has these nodes behind its first one.
+#[cycle(walk)]
+fn step(
+    alloc: Global,
+    text: &[u8],
+    tokens: &Tokens,
+    scope: Scope,
+    names: &[Binding],
+    number: usize,
+    node: Node,
+    own: &[Node],
+    draft: &mut Draft,
+) -> Result<(), ReadError>
+    requires lie { LieIn text.now (token_list tokens.now) }
+    requires rank { scope.rank < scope.ranks }
+    requires ranks { scope.ranks ≡ length draft.old.input.ranks }
+    requires few { number + length own.now < 2 ^ 40 }
+    ensures answers { (n : ℕ) → length own.now ≤ n → Answers (λ _. draft_seen draft.new) result
+        (stepped (bytes_in text.now (token_list tokens.now)) (lines_of (token_list tokens.now)) (walk (bytes_in text.now (token_list tokens.now)) (lines_of (token_list tokens.now)) n) (scope_of scope (names_in text.now (token_list tokens.now) names.now)) number node own.now (draft_seen draft.old)) }
+    ensures ranks { OnOk result (length draft.new.input.ranks ≡ length draft.old.input.ranks) }
+{
+    match node.what {
+        What::For => turn_loop(alloc, text, tokens, scope, names, number, node, own, draft),
+        _ => call(alloc, text, tokens, scope, names, node, own, draft),
+    }
+}
+
+/// Expands a loop: its bounds, and then its body for each turn.
+#[cycle(walk)]
+fn turn_loop(
+    alloc: Global,
+    text: &[u8],
+    tokens: &Tokens,
+    scope: Scope,
+    names: &[Binding],
+    number: usize,
+    node: Node,
+    own: &[Node],
+    draft: &mut Draft,
+) -> Result<(), ReadError>
+    requires lie { LieIn text.now (token_list tokens.now) }
+    requires rank { scope.rank < scope.ranks }
+    requires ranks { scope.ranks ≡ length draft.old.input.ranks }
+    requires few { number + length own.now < 2 ^ 40 }
+    ensures answers { (n : ℕ) → length own.now ≤ n → Answers (λ _. draft_seen draft.new) result
+        (looped (bytes_in text.now (token_list tokens.now)) (lines_of (token_list tokens.now)) (walk (bytes_in text.now (token_list tokens.now)) (lines_of (token_list tokens.now)) n) (scope_of scope (names_in text.now (token_list tokens.now) names.now)) number node own.now (draft_seen draft.old)) }
+    ensures ranks { OnOk result (length draft.new.input.ranks ≡ length draft.old.input.ranks) }
+{
+    let line = line(tokens, node.token);
+    let first = value(alloc, text, tokens, scope, names, line, own)?;
+    let rest = after(own, first.used);
+    let end = value(alloc, text, tokens, scope, names, line, rest)?;
+    let inner = after(rest, end.used);
+    let start = number + first.used + end.used;
+    for k in 0..turn_count(first, end) {
+        draft.turn(line)?;
+        let name = turn_name(node, first, end, k);
+        let inside = with_name(alloc, names, name)?;
+        body(
+            alloc,
+            text,
+            tokens,
+            scope,
+            inside.as_slice(),
+            start,
+            inner,
+            draft,
+        )?;
+    }
+    Ok(())
+}
+
+/// How many turns a loop has between its bounds.
+fn turn_count(first: Valued, end: Valued) -> u64
+    ensures { result ≡ turn_count first.value end.value }
+{
+    if first.value < end.value {
+        (i128::from(end.value) - i128::from(first.value)) as u64
+    } else {
+        0
+    }
+}
+
+/// The name of a loop with its value in turn `k`, from 0.
+fn turn_name(node: Node, first: Valued, end: Valued, k: u64) -> Binding
+    requires { k < turn_count first.value end.value }
+    ensures { result ≡ record { token = node.token + 1; value = first.value +ℤ pos k } }
+{
+    Binding {
+        token: node.token as usize + 1,
+        value: (i128::from(first.value) + i128::from(k)) as i64,
+    }
+}
+
+/// The names, and one more.
+fn with_name(alloc: Global, names: &[Binding], name: Binding) -> Result<Vec<Binding>, ReadError>
+    ensures { Answers (λ v. v.items) result (Ok (names.now ++ name ∷ [])) }
+{
+    let mut all = copied(alloc, names)?;
+    push_name(&mut all, name)?;
+    Ok(all)
+}
+
+/// A list of the same names.
+fn copied(alloc: Global, names: &[Binding]) -> Result<Vec<Binding>, ReadError>
+    ensures { Answers (λ v. v.items) result (Ok names.now) }
+{
+    let mut all = Vec::new(alloc);
+    for name in names {
+        push_name(&mut all, *name)?;
+    }
+    Ok(all)
+}
+
+/// Appends a name.
+fn push_name(names: &mut Vec<Binding>, name: Binding) -> Result<(), ReadError>
+    ensures { Answers (λ _. names.new.items) result (Ok (names.old.items ++ name ∷ [])) }
+{
+    match names.push(name) {
+        Ok(()) => Ok(()),
+        Err(_) => Err(ReadError::Memory),
+    }
+}
+
+/// Expands an instruction or a collective.
+fn call(
+    alloc: Global,
+    text: &[u8],
+    tokens: &Tokens,
+    scope: Scope,
+    names: &[Binding],
+    node: Node,
+    own: &[Node],
+    draft: &mut Draft,
+) -> Result<(), ReadError>
+    requires lie { LieIn text.now (token_list tokens.now) }
+    requires rank { scope.rank < scope.ranks }
+    requires ranks { scope.ranks ≡ length draft.old.input.ranks }
+    ensures answers { Answers (λ _. draft_seen draft.new) result
+        (called (bytes_in text.now (token_list tokens.now)) (lines_of (token_list tokens.now)) (scope_of scope (names_in text.now (token_list tokens.now) names.now)) node own.now (draft_seen draft.old)) }
+    ensures ranks { OnOk result (length draft.new.input.ranks ≡ length draft.old.input.ranks) }
+{
+    let Some(verb) = verb(text, tokens, node.token) else {
+        return Ok(());
+    };
+    let line = line(tokens, node.token);
+    let found = gather(alloc, text, tokens, scope, names, line, verb.operands, own)?;
+    match make(verb.action, &found) {
+        Made::Core(i) => draft.add(line, scope.rank, i),
+        Made::Shared(which) => draft.share(line, scope, which),
+        Made::Nothing => {
+            let bit = small(&found, 0);
+            let rest = &own[found.used..];
+            call_gate(alloc, text, tokens, scope, names, line, bit, rest, draft)
+        }
+    }
+}
+
+/// Expands the gate under a bit, at the front of these nodes.
+fn call_gate(
+    alloc: Global,
+    text: &[u8],
+    tokens: &Tokens,
+    scope: Scope,
+    names: &[Binding],
+    line: u32,
+    bit: u8,
+    nodes: &[Node],
+    draft: &mut Draft,
+) -> Result<(), ReadError>
+    requires lie { LieIn text.now (token_list tokens.now) }
+    requires rank { scope.rank < scope.ranks }
+    requires ranks { scope.ranks ≡ length draft.old.input.ranks }
+    ensures answers { Answers (λ _. draft_seen draft.new) result
+        (gated (bytes_in text.now (token_list tokens.now)) line (scope_of scope (names_in text.now (token_list tokens.now) names.now)) bit nodes.now (draft_seen draft.old)) }
+    ensures ranks { OnOk result (length draft.new.input.ranks ≡ length draft.old.input.ranks) }
+{
+    if nodes.is_empty() {
+        return Ok(());
+    }
+    let Some(verb) = verb(text, tokens, nodes[0].token) else {
+        return Ok(());
+    };
+    let found = gather(
+        alloc,
+        text,
+        tokens,
+        scope,
+        names,
+        line,
+        verb.operands,
+        &nodes[1..],
+    )?;
+    match gate_made(verb.action, &found) {
+        None => Ok(()),
+        Some(g) => draft.add(line, scope.rank, Instr::When { b: bit, g }),
+    }
+}

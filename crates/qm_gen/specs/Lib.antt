@@ -1,0 +1,4 @@
+pub mod Seeds
+pub mod Sizes
+pub mod Made
+pub mod Laws

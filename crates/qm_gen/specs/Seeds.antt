@@ -1,0 +1,46 @@
+-- The words of a seed, and the outcomes that they give
+use Rattle.std.specs.Prelude.{ℕ, zero, suc, ◌%◌, ◌==◌, Bool, if◌then◌else◌, List, [], ◌∷◌, map}
+use Rattle.rand_pcg.specs.Lcg.{Lcg, started, increment_of}
+use Rattle.rand_pcg.specs.Pcg.{multiplier_64, pcg32}
+
+-- numbers without end
+abbrev pub Words : Type 0
+Words = ℕ → ℕ
+
+-- the words after the first one
+abbrev pub words_after : Words → Words
+words_after w k = w (suc k)
+
+-- the words after so many
+abbrev pub skipped : ℕ → Words → Words
+skipped zero w = w
+skipped (suc n) w = skipped n (words_after w)
+
+-- the words that a generator gives, one after another
+abbrev pub words_of : Lcg → Words
+words_of g zero = (pcg32 g).0
+words_of g (suc k) = words_of (pcg32 g).1 k
+
+-- the generator of a seed, on stream 1
+abbrev pub generator_of : ℕ → Lcg
+generator_of seed = started 64 multiplier_64 seed (increment_of 64 1)
+
+-- the words of a seed
+abbrev pub seed_words : ℕ → Words
+seed_words seed = words_of (generator_of seed)
+
+-- the outcome of a word is its lowest bit
+abbrev pub outcome_of : ℕ → Bool
+outcome_of word = word % 2 == 1
+
+-- the outcomes of so many words
+abbrev pub outcomes : ℕ → Words → List Bool
+outcomes zero w = []
+outcomes (suc n) w = outcome_of (w 0) ∷ outcomes n (words_after w)
+
+-- outcomes are written as digits
+abbrev pub outcome_digit : Bool → ℕ
+outcome_digit m = if m then 49 else 48
+
+abbrev pub outcome_digits : List Bool → List ℕ
+outcome_digits ms = map outcome_digit ms

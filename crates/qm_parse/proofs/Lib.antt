@@ -1,0 +1,20 @@
+pub mod WordLemmas
+pub mod ListLemmas
+pub mod WeightLemmas
+pub mod LoopLemmas
+pub mod Behind
+pub mod BehindLemmas
+pub mod Parts
+pub mod ExprSteps
+pub mod BodySteps
+pub mod FrameSteps
+pub mod Turns
+pub mod Stays
+pub mod Known
+pub mod Stops
+pub mod Law
+pub mod Unique
+pub mod Numbers
+pub mod OneAnswer
+mod DepthValues
+pub mod SomeAnswer

@@ -1,0 +1,15 @@
+pub mod Words
+pub mod Signs
+pub mod Trees
+pub mod Spelling
+pub mod Nodes
+pub mod Faults
+pub mod Parsing
+pub mod Laws
+pub mod Looks
+pub mod Verdicts
+pub mod Moves
+pub mod Reaching
+pub mod Weights
+pub mod Places
+pub mod Values

@@ -1,0 +1,94 @@
+-- The goals that stand for a goal, or follow its first token
+use Rattle.std.specs.Prelude.{ℕ, ◌+◌, ◌-◌, true, false, nat_lt, if◌then◌else◌, List, [], ◌∷◌, reverse, Option, Some, None, count_by, is_some}
+use Rattle.qm_parse.specs.declared.goals.Fixed.TheVariants as fixed
+use Rattle.qm_parse.specs.declared.goals.Goal.{Goal}
+use Rattle.qm_parse.specs.declared.goals.Goal.TheVariants as goal
+use Rattle.qm_parse.specs.declared.looks.Look.{Look}
+use Rattle.qm_parse.specs.declared.looks.Look.TheVariants as look
+use Rattle.qm_parse.specs.declared.stack.Goals.{Goals}
+use Rattle.qm_parse.specs.declared.tree.What.{What}
+use Rattle.qm_parse.specs.declared.tree.What.TheVariants as what
+use Rattle.qm_parse.specs.declared.words.Keyword.TheVariants as keyword
+use Rattle.qm_parse.specs.declared.words.Mark.TheVariants as mark
+use Rattle.qm_parse.specs.declared.words.Verb.{Verb}
+use Rattle.qm_parse.specs.Words.{takes_gate}
+use Rattle.qm_parse.specs.Verdicts.{is_all, is_tape, mul_op, add_op}
+
+-- from the next goal to the last one
+abbrev pub goals_left : Goals → List Goal
+goals_left goals = reverse goals.items.items
+
+abbrev pub start_goals : List Goal
+start_goals = goal.Fixed fixed.Qmpi ∷ goal.Number 1 2 true ∷ goal.Fixed fixed.Ranks ∷ goal.Ranks ∷ []
+
+-- ---- of the frame; base is the number of the next node
+abbrev pub ranks_goals : Look → List Goal
+ranks_goals (look.Number ranks) =
+    goal.Fixed fixed.Qubits ∷ goal.Number 1 17 true ∷ goal.Fixed fixed.Buffer ∷ goal.Number 1 9 true ∷ goal.Blocks ranks ∷ goal.Tapes ranks ∷ []
+ranks_goals l = []
+
+abbrev pub each_goals : ℕ → ℕ → ℕ → List Goal
+each_goals next ranks base =
+    goal.Number next (next + 1) false ∷ goal.Body ∷ goal.Close base ∷ goal.Fixed fixed.End ∷ goal.Each (next + 1) ranks ∷ []
+
+abbrev pub frame_goals : Goal → Look → ℕ → List Goal
+frame_goals goal.Ranks l base = ranks_goals l
+frame_goals (goal.Blocks ranks) l base =
+    if is_all l then goal.Body ∷ goal.Close base ∷ goal.Fixed fixed.End ∷ [] else goal.Each 0 ranks ∷ []
+frame_goals (goal.Each next ranks) l base = if nat_lt next ranks then each_goals next ranks base else []
+frame_goals (goal.Tapes ranks) l base =
+    if is_tape l then goal.Number 0 ranks true ∷ goal.Outcomes ∷ goal.Close base ∷ goal.Tapes ranks ∷ [] else []
+frame_goals g l base = []
+
+-- ---- of bodies
+abbrev pub call_goals : Verb → List Goal → List Goal
+call_goals v goals = goal.Operands (count_by is_some v.operands) ∷ goals
+
+abbrev pub statement_goals : Look → ℕ → List Goal
+statement_goals (look.Verb v) base =
+    if takes_gate v.action then call_goals v (goal.Gate ∷ goal.Close base ∷ goal.Body ∷ []) else call_goals v (goal.Close base ∷ goal.Body ∷ [])
+statement_goals (look.Keyword keyword.For) base =
+    goal.Name ∷ goal.Fixed fixed.In ∷ goal.Operands 1 ∷ goal.Fixed fixed.Dots ∷ goal.Operands 1 ∷ goal.Braced ∷ goal.Close base ∷ goal.Body ∷ []
+statement_goals l base = []
+
+abbrev pub gate_goals : Look → ℕ → List Goal
+gate_goals (look.Verb v) base = call_goals v (goal.Close base ∷ [])
+gate_goals l base = []
+
+abbrev pub body_goals : Goal → Look → ℕ → List Goal
+body_goals goal.Body l base = statement_goals l base
+body_goals goal.Braced l base = goal.Body ∷ goal.Fixed fixed.CloseBrace ∷ []
+body_goals goal.Gate l base = gate_goals l base
+body_goals g l base = []
+
+-- ---- of expressions; at is the number of the next token
+abbrev pub muls_goals : Option What → ℕ → List Goal
+muls_goals None at = []
+muls_goals (Some w) at = goal.Prim ∷ goal.Leaf w at ∷ goal.Muls ∷ []
+
+abbrev pub adds_goals : Option What → ℕ → List Goal
+adds_goals None at = []
+adds_goals (Some w) at = goal.Prim ∷ goal.Muls ∷ goal.Leaf w at ∷ goal.Adds ∷ []
+
+abbrev pub prim_goals : Look → List Goal
+prim_goals (look.Mark mark.OpenParenthesis) = goal.Prim ∷ goal.Muls ∷ goal.Adds ∷ goal.Fixed fixed.CloseParenthesis ∷ []
+prim_goals l = []
+
+abbrev pub expr_goals : Goal → Look → ℕ → List Goal
+expr_goals (goal.Operands left) l at =
+    if nat_lt 0 left then goal.Prim ∷ goal.Muls ∷ goal.Adds ∷ goal.Leaf what.Arg at ∷ goal.Operands (left - 1) ∷ [] else []
+expr_goals goal.Prim l at = prim_goals l
+expr_goals goal.Muls l at = muls_goals (mul_op l) at
+expr_goals goal.Adds l at = adds_goals (add_op l) at
+expr_goals g l at = []
+
+-- ---- of each goal
+abbrev pub next_goals : Goal → Look → ℕ → ℕ → List Goal
+next_goals goal.Body l at base = body_goals goal.Body l base
+next_goals goal.Braced l at base = body_goals goal.Braced l base
+next_goals goal.Gate l at base = body_goals goal.Gate l base
+next_goals (goal.Operands left) l at base = expr_goals (goal.Operands left) l at
+next_goals goal.Prim l at base = expr_goals goal.Prim l at
+next_goals goal.Muls l at base = expr_goals goal.Muls l at
+next_goals goal.Adds l at base = expr_goals goal.Adds l at
+next_goals g l at base = frame_goals g l base

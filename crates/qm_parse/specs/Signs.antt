@@ -1,0 +1,57 @@
+-- Tokens as the grammar sees them
+use Rattle.std.specs.Prelude.{ℕ, ◌==◌, if◌then◌else◌, List, map, slice_range, slice_index, Option, Some, None}
+use Rattle.qm_lex.specs.declared.tokens.Token.{Token}
+use Rattle.qm_lex.specs.declared.tokens.TokenKind.{TokenKind}
+use Rattle.qm_lex.specs.declared.tokens.TokenKind.TheVariants as kind
+use Rattle.qm_parse.specs.declared.words.Keyword.{Keyword}
+use Rattle.qm_parse.specs.declared.words.Mark.{Mark}
+use Rattle.qm_parse.specs.declared.words.Mark.TheVariants as mark
+use Rattle.qm_parse.specs.declared.words.Reserved.{Reserved}
+use Rattle.qm_parse.specs.declared.words.Reserved.TheVariants as reserved
+use Rattle.qm_parse.specs.declared.words.Verb.{Verb}
+use Rattle.qm_parse.specs.Words.{reserved_of, value_of}
+
+-- a number by its value, a reserved word by its meaning, any other word by its bytes, a symbol
+pub data Sign : Type 0 where
+  Number : (value : ℕ) → Sign
+  Key : (keyword : Keyword) → Sign
+  Act : (verb : Verb) → Sign
+  Ident : (bytes : List ℕ) → Sign
+  Symbol : (mark : Mark) → Sign
+
+-- a symbol, by its first byte
+abbrev pub mark_of : ℕ → Mark
+mark_of b =
+    if b == 123 then mark.OpenBrace
+    else if b == 125 then mark.CloseBrace
+    else if b == 40 then mark.OpenParenthesis
+    else if b == 41 then mark.CloseParenthesis
+    else if b == 43 then mark.Plus
+    else if b == 45 then mark.Minus
+    else if b == 42 then mark.Times
+    else if b == 47 then mark.Over
+    else if b == 37 then mark.Rest
+    else mark.Dots
+
+-- a word with these bytes, and what it means
+abbrev pub word_sign : List ℕ → Option Reserved → Sign
+word_sign bytes (Some (reserved.Keyword k)) = Key k
+word_sign bytes (Some (reserved.Verb v)) = Act v
+word_sign bytes None = Ident bytes
+
+-- a token of a kind with these bytes
+abbrev pub sign : TokenKind → List ℕ → Sign
+sign kind.Word bytes = word_sign bytes (reserved_of bytes)
+sign kind.Number bytes = Number (value_of bytes)
+sign kind.Symbol bytes = Symbol (mark_of (slice_index bytes 0))
+
+-- the bytes of a token
+abbrev pub bytes_of : List ℕ → Token → List ℕ
+bytes_of text t = slice_range text t.start t.stop
+
+abbrev pub sign_of : List ℕ → Token → Sign
+sign_of text t = sign t.kind (bytes_of text t)
+
+-- the tokens of a text, in their order
+abbrev pub signs_of : List ℕ → List Token → List Sign
+signs_of text tokens = map (sign_of text) tokens

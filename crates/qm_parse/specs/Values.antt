@@ -1,0 +1,107 @@
+-- Trees of texts, by computation
+use Rattle.std.specs.Prelude.{◌≡◌, ℕ, true, false, List, [], ◌∷◌, Result, Ok, Err, Some, None, codes, refl, replicate}
+use Rattle.qm_lex.specs.declared.tokens.Token.{Token}
+use Rattle.qm_lex.specs.Lexing.{tokens_of}
+use Rattle.qm_instr.specs.declared.OneGate.TheVariants as one
+use Rattle.qm_parse.specs.declared.tree.Node.{Node}
+use Rattle.qm_parse.specs.declared.tree.What.{What}
+use Rattle.qm_parse.specs.declared.tree.What.TheVariants as what
+use Rattle.qm_parse.specs.declared.words.Action.TheVariants as action
+use Rattle.qm_parse.specs.declared.words.Keyword.TheVariants as keyword
+use Rattle.qm_parse.specs.declared.words.Mark.TheVariants as mark
+use Rattle.qm_parse.specs.declared.words.Operand.TheVariants as operand
+use Rattle.qm_parse.specs.declared.words.Reserved.TheVariants as reserved
+use Rattle.qm_parse.specs.declared.words.Verb.{Verb}
+use Rattle.qm_parse.specs.Words.{reserved_of, operands_of, bits_word}
+use Rattle.qm_parse.specs.Signs.{Sign, Symbol, signs_of}
+use Rattle.qm_parse.specs.Trees.{Plus, Times, Expr, Sum, NoAdd, Add, Product, NoMul, Mul, Prim, Num, Name, Rank, Paren, Nothing, Then, Stmt, DoUnder, For, ForEach, Program}
+use Rattle.qm_parse.specs.Spelling.{program_signs}
+use Rattle.qm_parse.specs.Nodes.{program_nodes}
+use Rattle.qm_parse.specs.Faults.{open_after}
+
+-- ---- words
+
+abbrev verb_x : Verb
+verb_x = record { action = action.One one.X; operands = Some operand.Slot ∷ None ∷ None ∷ None ∷ [] }
+
+abbrev verb_bcast : Verb
+verb_bcast = record { action = action.Bcast; operands = Some operand.Slot ∷ Some operand.Root ∷ Some operand.Tag ∷ None ∷ [] }
+
+word_bcast : reserved_of (codes "bcast") ≡ Some (reserved.Verb verb_bcast)
+word_bcast = refl
+
+operands_bcast : operands_of verb_bcast ≡ operand.Slot ∷ operand.Root ∷ operand.Tag ∷ []
+operands_bcast = refl
+
+word_protocol : reserved_of (codes "protocol") ≡ Some (reserved.Keyword keyword.Protocol)
+word_protocol = refl
+
+-- names: no beginning of a reserved word, no capital, no tree form of a broadcast
+word_b : reserved_of (codes "b") ≡ None
+word_b = refl
+
+word_H : reserved_of (codes "H") ≡ None
+word_H = refl
+
+word_treecast : reserved_of (codes "treecast") ≡ None
+word_treecast = refl
+
+outcomes_word : bits_word (false ∷ true ∷ []) ≡ codes "b01"
+outcomes_word = refl
+
+-- ---- a program
+abbrev text : List ℕ
+text = codes "qmpi 01 ranks 2 qubits 3 buffer 4 rank 0 for i in 0..2+(rank)*i { when i x 1 } end rank 1 end own 1 b01"
+
+abbrev single : Prim → Expr
+single p = Sum (Product p NoMul) NoAdd
+
+abbrev loop : Stmt
+loop = For (codes "i")
+    (single (Num 0))
+    (Sum (Product (Num 2) NoMul) (Add Plus (Product (Paren (single Rank)) (Mul Times (Name (codes "i")) NoMul)) NoAdd))
+    (Then (DoUnder
+    (record { verb = record { action = action.When; operands = Some operand.Bit ∷ None ∷ None ∷ None ∷ [] }; operands = single (Name (codes "i")) ∷ [] })
+    (record { verb = verb_x; operands = single (Num 1) ∷ [] })) Nothing)
+
+abbrev program : Program
+program = record {
+  ranks = 2;
+  qubits = 3;
+  buffer = 4;
+  blocks = ForEach (Then loop Nothing ∷ Nothing ∷ []);
+  tapes = record { own = true; rank = 1; outcomes = false ∷ true ∷ [] } ∷ [];
+}
+
+-- the tokens of a text, which has no bad byte
+abbrev signs_in : List ℕ → Result (List Token) ℕ → List Sign
+signs_in bytes (Ok tokens) = signs_of bytes tokens
+signs_in bytes (Err line) = []
+
+program_spelled : program_signs program ≡ signs_in text (tokens_of text)
+program_spelled = refl
+
+abbrev node : What → ℕ → ℕ → ℕ → Node
+node w token value stop = record { what = w; token = token; value = value; stop = stop }
+
+program_written : program_nodes program ≡
+    node what.Num 1 1 1 ∷ node what.Num 3 2 2 ∷ node what.Num 5 3 3 ∷ node what.Num 7 4 4
+    ∷ node what.Block 8 0 20
+    ∷ node what.For 10 0 20
+    ∷ node what.Num 13 0 7 ∷ node what.Arg 13 0 8
+    ∷ node what.Num 15 2 9 ∷ node what.Rank 18 0 10 ∷ node what.Name 21 0 11 ∷ node what.Times 20 0 12 ∷ node what.Plus 16 0 13 ∷ node what.Arg 15 0 14
+    ∷ node what.Instr 23 0 20 ∷ node what.Name 24 0 16 ∷ node what.Arg 24 0 17
+    ∷ node what.Instr 25 0 20 ∷ node what.Num 26 1 19 ∷ node what.Arg 26 0 20
+    ∷ node what.Block 29 0 21
+    ∷ node what.Own 32 0 24 ∷ node what.Num 33 1 23 ∷ node what.Bits 34 0 24 ∷ []
+program_written = refl
+
+-- ---- open braces and parentheses
+abbrev opened : ℕ → List Sign
+opened n = replicate n (Symbol mark.OpenParenthesis)
+
+depth_of_thirty_two : open_after 0 (opened 32) ≡ 32
+depth_of_thirty_two = refl
+
+depth_reached : open_after 0 (Symbol mark.OpenBrace ∷ Symbol mark.OpenParenthesis ∷ Symbol mark.CloseParenthesis ∷ Symbol mark.Plus ∷ []) ≡ 1
+depth_reached = refl

@@ -1,0 +1,21 @@
+//! Why a text has no source tree.
+use thiserror::Error;
+
+/// The first token at which the grammar can't go on, by its line.
+#[derive(Clone, Copy, Debug, PartialEq, Eq, Error)]
+pub enum ParseError {
+    /// It may not stand there, or it is a number outside the range of its place.
+    #[error("line {line}: a token that may not stand there")]
+    Unexpected { line: u32 },
+    /// It is a number above 2,147,483,647 where a number may stand.
+    #[error("line {line}: a number that is too large")]
+    NumberTooLarge { line: u32 },
+    /// It is a `{` or a `(` where one may stand, but 32 are open.
+    #[error("line {line}: too many open braces and parentheses")]
+    TooDeep { line: u32 },
+    /// The text ends before the program does.
+    #[error("line {line}: the text ends too early")]
+    Unended { line: u32 },
+    #[error("out of memory")]
+    Memory,
+}

@@ -1,0 +1,18 @@
+//! The laws of parsing, for any tokens.
+
+ghost use Rattle.qm_parse.specs.Laws.{OneFault, OneTree, TreeOrFault};
+
+/// Tokens spell one source tree at most.
+pub fn one_tree()
+    ensures { OneTree }
+{}
+
+/// Tokens have one first fault at most, on one line.
+pub fn one_fault()
+    ensures { OneFault }
+{}
+
+/// Tokens that spell a source tree have no fault.
+pub fn tree_or_fault()
+    ensures { TreeOrFault }
+{}

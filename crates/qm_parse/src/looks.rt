@@ -1,0 +1,125 @@
+//! Tokens as the reading sees them.
+ghost use Rattle.std.specs.Prelude.{◌≡◌, ◌<◌, length, drop};
+ghost use Rattle.qm_lex.specs.Lexing.{token_list};
+ghost use Rattle.qm_lex.specs.Spans.{LieIn};
+ghost use Rattle.std.specs.List.{list_all};
+ghost use Rattle.qm_parse.specs.Words.{reserved_of, value_of};
+ghost use Rattle.qm_parse.specs.Signs.{mark_of, word_sign, sign, signs_of};
+ghost use Rattle.qm_parse.specs.Looks.{is_outcome, is_bits, capped, look_of, look_at};
+ghost use Rattle.qm_parse.specs.Weights.{HasFewOperands};
+
+use crate::words::{Keyword, Mark, Reserved, Verb, reserved_of};
+use qm_lex::{TokenKind, Tokens};
+
+/// The largest number that a text may have.
+pub(crate) const LARGEST: u32 = 2_147_483_647;
+
+/// A token as the reading sees it.
+#[derive(Clone, Copy)]
+pub(crate) enum Look {
+    /// A number with this value; any above 2,147,483,647 is seen as 2,147,483,648.
+    Number(u32),
+    Keyword(Keyword),
+    Verb(Verb),
+    /// A word that isn't reserved, and whether it is the letter b followed by digits 0 and 1 only.
+    Name(bool),
+    Mark(Mark),
+    /// The end of the text.
+    End,
+}
+
+/// The value of decimal digits, or 2,147,483,648 where it is larger.
+fn value_of(digits: &[u8]) -> u32
+    ensures { result ≡ capped (value_of digits.now) }
+{
+    let mut value = 0;
+    for digit in digits {
+        value = capped(10 * u64::from(value) + u64::from(digit.saturating_sub(b'0')));
+    }
+    value
+}
+
+/// The number, or 2,147,483,648 where it is larger.
+fn capped(value: u64) -> u32
+    ensures { result ≡ capped value }
+{
+    if value > u64::from(LARGEST) {
+        LARGEST + 1
+    } else {
+        value as u32
+    }
+}
+
+/// Whether the word is the letter b followed by digits 0 and 1 only.
+fn is_bits(word: &[u8]) -> bool
+    ensures { result ≡ is_bits word.now }
+{
+    !word.is_empty() && word[0] == b'b' && are_outcomes(&word[1..])
+}
+
+fn are_outcomes(digits: &[u8]) -> bool
+    ensures { result ≡ list_all is_outcome digits.now }
+{
+    digits.iter().all(|digit| is_outcome(*digit))
+}
+
+fn is_outcome(digit: u8) -> bool
+    ensures { result ≡ is_outcome digit }
+{
+    digit == b'0' || digit == b'1'
+}
+
+/// A symbol, by its first byte.
+fn mark_of(byte: u8) -> Mark
+    ensures { result ≡ mark_of byte }
+{
+    match byte {
+        b'{' => Mark::OpenBrace,
+        b'}' => Mark::CloseBrace,
+        b'(' => Mark::OpenParenthesis,
+        b')' => Mark::CloseParenthesis,
+        b'+' => Mark::Plus,
+        b'-' => Mark::Minus,
+        b'*' => Mark::Times,
+        b'/' => Mark::Over,
+        b'%' => Mark::Rest,
+        _ => Mark::Dots,
+    }
+}
+
+/// A word with these bytes.
+fn word_look(word: &[u8]) -> Look
+    ensures look { result ≡ look_of (word_sign word.now (reserved_of word.now)) }
+    ensures few { HasFewOperands result }
+{
+    match reserved_of(word) {
+        Some(Reserved::Keyword(keyword)) => Look::Keyword(keyword),
+        Some(Reserved::Verb(verb)) => Look::Verb(verb),
+        None => Look::Name(is_bits(word)),
+    }
+}
+
+/// A token of this kind with these bytes, of which there is one at least.
+fn look_of(kind: TokenKind, bytes: &[u8]) -> Look
+    requires { 0 < length bytes.now }
+    ensures look { result ≡ look_of (sign kind bytes.now) }
+    ensures few { HasFewOperands result }
+{
+    match kind {
+        TokenKind::Word => word_look(bytes),
+        TokenKind::Number => Look::Number(value_of(bytes)),
+        TokenKind::Symbol => Look::Mark(mark_of(bytes[0])),
+    }
+}
+
+/// The token with this number.
+pub(crate) fn look_at(text: &[u8], tokens: &Tokens, at: u32) -> Look
+    requires { LieIn text.now (token_list tokens.now) }
+    ensures look { result ≡ look_at (drop at (signs_of text.now (token_list tokens.now))) }
+    ensures few { HasFewOperands result }
+{
+    match tokens.token(at) {
+        Some(token) => look_of(token.kind, &text[token.start as usize..token.stop as usize]),
+        None => Look::End,
+    }
+}

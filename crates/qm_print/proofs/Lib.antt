@@ -1,0 +1,5 @@
+pub mod GatherLemmas
+pub mod BelowLemmas
+pub mod BitsLemmas
+pub mod WalkLemmas
+pub mod BranchLemmas

@@ -1,0 +1,13 @@
+pub mod Gathering
+pub mod Pieces
+pub mod Below
+pub mod Slots
+pub mod Bits
+pub mod Branches
+pub mod StateText
+pub mod CircuitText
+pub mod CheckText
+pub mod JobText
+pub mod Blocks
+pub mod Walks
+pub mod FaultText

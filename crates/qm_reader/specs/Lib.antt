@@ -1,9 +1,0 @@
-pub mod Tokens
-pub mod Numbers
-pub mod Listings
-pub mod Spelling
-pub mod Reading
-pub mod Errors
-pub mod Cursors
-pub mod States
-pub mod Standing

@@ -1,0 +1,121 @@
+-- An order has one due text, and a machine that was played in it tells which
+use Rattle.std.proofs.Common.{◌≡◌, ◌∙◌, ℕ, ◌+◌, ◌%◌, ◌<◌, ◌≤◌, ◌⊎◌, inl, inr, Bool, true, false, List, [], ◌∷◌, ◌++◌, length, Some, None, suc, refl, sym, ap, subst, arith}
+use Rattle.qm_denot.specs.Circuits.{Circuit}
+use Rattle.qm_denot.specs.Stores.{Store}
+use Rattle.qm_instr.specs.Programs.{Programs}
+use Rattle.qm_proto.specs.declared.Cause.{Cause}
+use Rattle.qm_proto.specs.declared.Check.{Check}
+use Rattle.qm_proto.specs.Model.State.{Tables, State}
+use Rattle.qm_proto.specs.Model.Runs.{enabled, has_event, FirstFails, IsRefused}
+use Rattle.qm_proto.specs.Model.Schedules.{state_at_start, replay, IsLegal, IsComplete, IsStuck, IsLowestLeft, AllEnded, NoneEnabled}
+use Rattle.qm_proto.specs.Model.Orders.{Words, IsFirstAround, IsEndAround, IsOrderFrom, StopsAround}
+use Rattle.qm_proto.specs.Model.Orders as around
+use Rattle.qm_machine.specs.declared.Halt.{Halt}
+use Rattle.qm_machine.specs.Keeps.{MachineView, HasEnded, state_of}
+use Rattle.qm_print.specs.FaultText.{stopped_line}
+use Rattle.qm_ranks.specs.Plays as plays
+use Rattle.qm_ranks.specs.Plays.{IsOver, GoesOn, Plays}
+use Rattle.qm_tool.specs.Dues.{CompleteWith, Stops, Refused, Stuck, StoppedWith, Order, order_words, IsScheduleOf, IsTurnAfter, IsDue, Completes, StopsShort, HaltStops, HasPlayed}
+use Rattle.qm_ranks.proofs.Orders.{one_order, around_unique, around_known, legal_order}
+use Rattle.qm_ranks.proofs.Existing.{row_there}
+
+-- ---- a state stops a run at one rank, for one cause
+first_fails_unique : (g : Circuit) (ks : List Check) (c d : Cause) → FirstFails g ks c → FirstFails g ks d → c ≡ d
+first_fails_unique g [] c d a b = absurd a
+first_fails_unique g (k ∷ ks) c d (inl a) (inl b) = a.1 ∙ sym b.1
+first_fails_unique g (k ∷ ks) c d (inl a) (inr b) = absurd (b.0 a.0)
+first_fails_unique g (k ∷ ks) c d (inr a) (inl b) = absurd (a.0 b.0)
+first_fails_unique g (k ∷ ks) c d (inr a) (inr b) = first_fails_unique g ks c d a.1 b.1
+
+module _ (p : Programs) (s : State) (q r : ℕ) where
+  one_place : (q ≡ r) ⊎ ((q < r) ⊎ (r < q))
+  one_place = grind arith
+
+  lowest_left_unique : IsLowestLeft p s.tables q → IsLowestLeft p s.tables r → q ≡ r
+  lowest_left_unique a b =
+      elim one_place [
+        | inl same ↦ same
+        | inr (inl less) ↦ (let none = b.below q less in let left = a.left in cc)
+        | inr (inr more) ↦ (let none = a.below r more in let left = b.left in cc)
+      ]
+
+stuck_or_able : (p : Programs) (t : Tables) (q : ℕ) → IsStuck p t → q < length p.ranks → enabled p t q ≡ true → ⊥
+stuck_or_able p t q stuck known able = let unable = stuck.none q known in cc
+
+stops_once : (p : Programs) (s : State) (start q r : ℕ) (c d : Cause) → Stops p s (IsFirstAround p s.tables start) q c → Stops p s (IsFirstAround p s.tables start) r d → (q ≡ r) × (c ≡ d)
+stops_once p s start q r _ _ (Refused c first known able refused) (Refused d first' known' able' refused') =
+    let same = around_unique p s.tables start q r first first' in
+    (same, first_fails_unique s.circuit _ c d refused (subst (λ k. IsRefused p s k d) (sym same) refused'))
+stops_once p s start q r _ _ (Refused c first known able refused) (Stuck stuck low) = absurd (stuck_or_able p s.tables q stuck known able)
+stops_once p s start q r _ _ (Stuck stuck low) (Refused d first known able refused) = absurd (stuck_or_able p s.tables r stuck known able)
+stops_once p s start q r _ _ (Stuck stuck low) (Stuck stuck' low') = (lowest_left_unique p s q r low low', refl)
+
+-- and doesn't where all ranks have ended
+ended_or_stops : (p : Programs) (s : State) (IsNext : ℕ → Type 0) (r : ℕ) (c : Cause) → AllEnded p s.tables → Stops p s IsNext r c → ⊥
+ended_or_stops p s IsNext r _ ended (Refused d next known able refused) = let none = ended r known in let some = row_there p s.tables _ able in cc
+ended_or_stops p s IsNext r _ ended (Stuck stuck low) = let none = ended r low.known in let some = low.left in cc
+
+-- ---- one due text
+module _ (p : Programs) (o : Order) (IsState : List ℕ → List ℕ → Type 0) (block : List ℕ → List ℕ) (one_state : (schedule a b : List ℕ) → IsState schedule a → IsState schedule b → a ≡ b) where
+  one_schedule : (xs ys : List ℕ) → IsScheduleOf p o xs → IsScheduleOf p o ys → xs ≡ ys
+  one_schedule xs ys a b = one_order p (state_at_start p) (order_words o) xs ys a b
+
+  complete_once : (schedule a b : List ℕ) → CompleteWith p (IsState schedule) schedule (block schedule) a → CompleteWith p (IsState schedule) schedule (block schedule) b → a ≡ b
+  complete_once schedule a b x y = x.whole ∙ ap (λ t. t ++ block schedule) (one_state schedule x.state y.state x.so y.so) ∙ sym y.whole
+
+  stopped_once : (schedule a b : List ℕ) → StoppedWith p (IsTurnAfter p o schedule) schedule (block schedule) a → StoppedWith p (IsTurnAfter p o schedule) schedule (block schedule) b → a ≡ b
+  stopped_once schedule a b x y =
+      let same = stops_once p (replay p schedule) (order_words o (length schedule) % length p.ranks) x.rank y.rank x.cause y.cause x.stops y.stops in
+      x.whole
+      ∙ ap (λ r. stopped_line r (length schedule) x.cause ++ block schedule) same.0
+      ∙ ap (λ c. stopped_line y.rank (length schedule) c ++ block schedule) same.1
+      ∙ sym y.whole
+
+  complete_or_stopped : (schedule a b : List ℕ) → CompleteWith p (IsState schedule) schedule (block schedule) a → StoppedWith p (IsTurnAfter p o schedule) schedule (block schedule) b → ⊥
+  complete_or_stopped schedule a b x y = ended_or_stops p (replay p schedule) (IsTurnAfter p o schedule) y.rank y.cause x.complete.ended y.stops
+
+  pub one_due : (a b : List ℕ) (ok so : Bool) → IsDue p o IsState block a ok → IsDue p o IsState block b so → (ok ≡ so) × (a ≡ b)
+  one_due a b _ _ (Completes xs x c) (Completes ys y d) =
+      (refl, complete_once xs a b c (subst (λ s. CompleteWith p (IsState s) s (block s) b) (sym (one_schedule xs ys x y)) d))
+  one_due a b _ _ (Completes xs x c) (StopsShort ys y d) =
+      absurd (complete_or_stopped xs a b c (subst (λ s. StoppedWith p (IsTurnAfter p o s) s (block s) b) (sym (one_schedule xs ys x y)) d))
+  one_due a b _ _ (StopsShort xs x c) (Completes ys y d) =
+      absurd (complete_or_stopped ys b a d (subst (λ s. StoppedWith p (IsTurnAfter p o s) s (block s) a) (one_schedule xs ys x y) c))
+  one_due a b _ _ (StopsShort xs x c) (StopsShort ys y d) =
+      (refl, stopped_once xs a b c (subst (λ s. StoppedWith p (IsTurnAfter p o s) s (block s) b) (sym (one_schedule xs ys x y)) d))
+
+-- ---- a machine that was played
+stops_there : (p : Programs) (s : State) (start rank : ℕ) (c : Cause) → StopsAround p s start rank c → Stops p s (IsFirstAround p s.tables start) rank c
+stops_there p s start rank _ (around.Refused c first refused) = Refused c first (around_known p s.tables start rank first) first.able refused
+stops_there p s start rank _ (around.Stuck stuck low) = Stuck stuck low
+
+over_there : {A : Type 0} (o : Order) (m : MachineView A) → IsOver m (order_words o (length m.schedule) % length m.programs.ranks)
+    → HasEnded m ⊎ ((h : Halt) × ((m.halted ≡ Some h) × HaltStops o m h))
+over_there o m (plays.Ended ended) = inl ended
+over_there o m (plays.Stopped h is turns stops) =
+    inr (h, (is, record { turns = turns; stops = stops_there m.programs (state_of m) (order_words o (length m.schedule) % length m.programs.ranks) h.rank h.cause stops }))
+
+start_replay : (p : Programs) → replay p [] ≡ state_at_start p
+unfolding replay
+start_replay p = refl
+
+start_legal : (p : Programs) → IsLegal p []
+unfolding IsLegal
+start_legal p = tt
+
+-- what playing a machine from its start in this order leaves
+pub has_played : {A : Type 0} (store : A → Store) (old new : MachineView A) (o : Order) → Plays store old new (order_words o) → old.halted ≡ None → old.schedule ≡ [] → HasPlayed o new
+has_played store old new o h running start =
+    let on = h.goes running in
+    let p = old.programs in
+    let w = order_words o in
+    let same : new.schedule ≡ on.more = on.schedule ∙ ap (λ s. s ++ on.more) start in
+    let from_start : IsOrderFrom p (replay p []) w on.more = subst (λ s. IsOrderFrom p (replay p s) w on.more) start on.order in
+    let legal : IsLegal p on.more = (legal_order p [] on.more w (start_legal p) from_start).legal in
+    let order : IsScheduleOf p o on.more = subst (λ s. IsOrderFrom p s w on.more) (start_replay p) from_start in
+    let over : IsOver new (w (length new.schedule) % length p.ranks) = subst (λ s. IsOver new (w (length s) % length p.ranks)) (sym same) on.over in
+    record {
+      schedule = subst (λ (q : Programs). IsScheduleOf q o new.schedule) (sym h.programs) (subst (IsScheduleOf p o) (sym same) order);
+      legal = subst (λ (q : Programs). IsLegal q new.schedule) (sym h.programs) (subst (IsLegal p) (sym same) legal);
+      over = over_there o new (subst (λ (q : Programs). IsOver new (w (length new.schedule) % length q.ranks)) (sym h.programs) over);
+    }

@@ -1,0 +1,133 @@
+//! Commands that run a program: a machine is played, and what it comes to is written.
+ghost use Rattle.std.specs.Prelude.{◌≡◌, ◌≤◌, [], None, IfOk};
+ghost use Rattle.qm_denot.specs.Stores.{StandsFor};
+ghost use Rattle.qm_check.specs.Checks.{capacity_of};
+ghost use Rattle.qm_io.specs.Ends.{Puts};
+ghost use Rattle.qm_machine.specs.Keeps.{Keeps};
+ghost use Rattle.qm_tool.specs.Commands.{order_of, block_of};
+ghost use Rattle.qm_tool.specs.Dues.{HasPlayed};
+ghost use Rattle.qm_tool.specs.Running.{IsRun, IsStopOf, MayPutRun, end_text, run_status, run_text};
+
+use crate::command::Play;
+use crate::ends::{full_slots, head_of};
+use crate::status::Status;
+use qm_check::Ready;
+use qm_denot::Amps;
+use qm_io::{Failed, Sink};
+use qm_machine::{Machine, State};
+use qm_print::{FaultLine, Head, Live, put_fault, put_state, put_trace};
+use qm_ranks::{play_order, play_seed};
+use std::alloc::{AllocError, Global};
+
+/// A machine that was played, and what its text says of it.
+#[derive(Drop)]
+pub(crate) struct Run<A: Amps> {
+    play: Play,
+    machine: Machine<A>,
+    /// The line of where and why it stopped, if it did.
+    stop: Option<FaultLine>,
+    head: Head,
+    live: Vec<Live>,
+}
+
+impl<A: Amps> Run<A> {
+    /// Runs ready programs over a store that stands for the empty circuit. `AllocError` comes from the allocator alone.
+    pub(crate) fn start(
+        alloc: Global,
+        play: Play,
+        ready: Ready,
+        amps: A,
+    ) -> Result<Run<A>, AllocError>
+        requires able { A.able }
+        requires stands { StandsFor (A.store amps) [] }
+        requires live { (A.store amps).live ≡ [] }
+        requires room { capacity_of ready ≤ (A.store amps).capacity }
+        ensures run { IfOk result (IsRun A.store play ready) }
+        ensures may_put { IfOk result (MayPutRun A.store) }
+    {
+        let mut machine = Machine::start(alloc, ready, amps)?;
+        play_as(&mut machine, play);
+        let stop = stop_of(&machine);
+        let head = head_of(machine.ready(), &machine, machine.amps().exponent());
+        let live = full_slots(alloc, machine.ready().input(), &machine)?;
+        Ok(Run {
+            play,
+            machine,
+            stop,
+            head,
+            live,
+        })
+    }
+
+    /// The status of a call that wrote the run's text.
+    pub(crate) fn status(&self) -> Status
+        ensures { result ≡ run_status self.now }
+    {
+        match &self.stop {
+            Some(stop) => Status::of_fault(stop),
+            None => Status::Ok,
+        }
+    }
+}
+
+/// Plays a machine from its start, until no rank has an event left or the machine is halted.
+fn play_as<A: Amps>(machine: &mut Machine<A>, play: Play)
+    requires able { A.able }
+    requires start { machine.old.schedule ≡ [] }
+    requires running { machine.old.halted ≡ None }
+    ensures programs { machine.new.programs ≡ machine.old.programs }
+    ensures played { HasPlayed (order_of play) machine.new }
+{
+    match play {
+        Play::Plain => play_order(machine),
+        Play::Sched { seed } => play_seed(machine, seed),
+        Play::Trace { seed } => play_seed(machine, seed),
+    }
+}
+
+/// The line of where and why a machine was halted, if it was.
+fn stop_of<A: Amps>(machine: &Machine<A>) -> Option<FaultLine>
+    ensures stop { IsStopOf machine.now result }
+    ensures kept { Keeps A.store machine.now }
+{
+    match machine.state() {
+        State::Halted { halt } => Some(FaultLine::Stopped {
+            rank: halt.rank,
+            turns: halt.turns,
+            cause: halt.cause,
+        }),
+        State::AllEnded | State::Running => None,
+    }
+}
+
+/// Writes the state text of a run that ended, or the line of where and why it stopped.
+fn put_end<A: Amps, O: Sink>(sink: &mut O, run: &Run<A>) -> Result<(), Failed>
+    requires { MayPutRun A.store run.now }
+    ensures { Puts (O.seen sink.old) (O.seen sink.new) (end_text A.store run.now) result }
+{
+    match &run.stop {
+        Some(stop) => put_fault(sink, stop),
+        None => put_state(sink, &run.head, &run.live, run.machine.amps()),
+    }
+}
+
+/// Writes the block of a run's schedule, where its command asks for one.
+fn put_block<A: Amps, O: Sink>(sink: &mut O, run: &Run<A>) -> Result<(), Failed>
+    ensures { Puts (O.seen sink.old) (O.seen sink.new)
+        (block_of run.now.play run.now.machine.programs run.now.machine.schedule) result }
+{
+    match run.play {
+        Play::Plain => Ok(()),
+        Play::Sched { .. } => Ok(()),
+        Play::Trace { .. } => put_trace(sink, run.machine.ready(), run.machine.schedule()),
+    }
+}
+
+/// Writes the text of a run.
+pub(crate) fn put_run<A: Amps, O: Sink>(sink: &mut O, run: &Run<A>) -> Result<(), Failed>
+    requires { MayPutRun A.store run.now }
+    ensures { Puts (O.seen sink.old) (O.seen sink.new) (run_text A.store run.now) result }
+{
+    put_end(sink, run)?;
+    put_block(sink, run)
+}
