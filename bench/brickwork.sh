@@ -1,49 +1,84 @@
 #!/usr/bin/env bash
-# Times the letters of brickwork circuits under `plain`: nanoseconds for one letter and one amplitude, at 10 to 18 live wires.
+# Times the letters of brickwork circuits under `plain` beside brickwork.c, which does the same letters in C: nanoseconds for one letter
+# and one amplitude at 10 to 18 live wires, and the program's ratio to the C loop. All take turns on one processor, and the least of
+# their processor times counts, so that it matters little what else the machine does.
 # A layer is a Hadamard and a T on every qubit, then controlled-nots between neighbours, shifted by one in every other layer.
-# The time of one layer, which prints as many lines, is taken off that of all layers. Wants a built program: run `rt ci` first.
+# Where one rank has too few qubits there are two, and the first waits for a bit of the second: so all wires live before any letter.
+# At the end all qubits are measured as zero, so that one amplitude is printed. The time of a program of one layer is taken off that of
+# all layers. Wants gcc, and a built program: run `rt ci` first.
+# usage: brickwork.sh [PROGRAM]; without it the program that `rt ci` has left. `rounds` in the environment says how often each is run.
 set -euo pipefail
 top=$(cd "$(dirname "${BASH_SOURCE[0]}")/.." && pwd)
 program=${1:-$top/crates/qmpi/out/qmpi}
+rounds=${rounds:-9}
+layers=20
+pinned=()
+if command -v taskset > /dev/null; then pinned=(taskset -c 0); fi
 [ -x "$program" ] || { echo "no program at $program: run 'rt ci' first" >&2; exit 1; }
-texts=$(mktemp -d)
-trap 'rm -r "$texts"' EXIT
+work=$(mktemp -d)
+trap 'rm -r "$work"' EXIT
+gcc -O2 -o "$work/c" "$top/bench/brickwork.c"
+gcc -O2 -DEACH_SUM -o "$work/each" "$top/bench/brickwork.c"
 
-brickwork() {  # a program of so many qubits and layers: on one rank, or on two where one has too few qubits
+brickwork() {  # a program of so many qubits and layers
   awk -v n="$1" -v layers="$2" 'BEGIN {
     ranks = n > 16 ? 2 : 1; q = n / ranks
     printf "qmpi 1\nranks %d\nqubits %d\nbuffer 1\n", ranks, q
     for (r = 0; r < ranks; r++) {
       printf "rank %d\n", r
       for (i = 0; i < q; i++) printf "  alloc %d\n", i
+      if (ranks > 1) print (r == 0 ? "  recvbit 0 1 0" : "  sendbit 0 0 0")
       for (l = 0; l < layers; l++) {
         for (i = 0; i < q; i++) printf "  h %d\n  t %d\n", i, i
         for (i = l % 2; i + 1 < q; i += 2) printf "  cx %d %d\n", i, i + 1
       }
+      for (i = 0; i < q; i++) printf "  measure %d 0\n", i
       print "end"
     }
+    for (r = 0; r < ranks; r++) printf "own %d b%0*d\n", r, q, 0
   }'
-}
-
-best() {  # the least of five wall times in nanoseconds
-  local least=0 start stop
-  for _ in 1 2 3 4 5; do
-    start=$(date +%s%N)
-    "$program" plain < "$1" > /dev/null
-    stop=$(date +%s%N)
-    if [ "$least" = 0 ] || [ $((stop - start)) -lt "$least" ]; then least=$((stop - start)); fi
-  done
-  echo "$least"
 }
 
 letters() {  # how many letters a program has
   grep -cE '^ *(h|t|cx) ' "$1"
 }
 
+repeat() {  # so many runs of one of the programs with so many layers
+  local run
+  for ((run = 0; run < $3; run++)); do
+    case $1 in
+      ours) "${pinned[@]}" "$program" plain < "$work/text$2" ;;
+      *) "${pinned[@]}" "$work/$1" "$qubits" "$2" ;;
+    esac > /dev/null
+  done
+}
+
+timed() {  # which of the programs, and of how many layers: keeps the least of its processor times, in milliseconds for all its runs
+  local user system spent TIMEFORMAT='%3U %3S'
+  read -r user system < <({ time repeat "$1" "$2" "$runs" 2> /dev/null; } 2>&1)
+  spent=$((10#${user/./} + 10#${system/./}))
+  if [ -z "${least[$1 $2]:-}" ] || [ "$spent" -lt "${least[$1 $2]}" ]; then least[$1 $2]=$spent; fi
+}
+
+spent() {  # the time of all layers but one
+  echo $((least[$1 $layers] - least[$1 1]))
+}
+
+echo 'wires   C   C, each sum tested   qmpi   ratio'
 for qubits in 10 12 14 16 18; do
-  brickwork "$qubits" 20 > "$texts/long"
-  brickwork "$qubits" 1 > "$texts/short"
-  count=$(($(letters "$texts/long") - $(letters "$texts/short")))
-  spent=$(($(best "$texts/long") - $(best "$texts/short")))
-  awk -v n="$qubits" -v c="$count" -v t="$spent" 'BEGIN { printf "%d qubits, 20 layers: %.1f ns for one letter and one amplitude\n", n, t / (c * 2 ^ n) }'
+  declare -A least=()
+  runs=$((qubits < 16 ? 2 ** (16 - qubits) : 1))
+  brickwork "$qubits" "$layers" > "$work/text$layers"
+  brickwork "$qubits" 1 > "$work/text1"
+  for ((round = 0; round < rounds; round++)); do
+    for which in c ours each; do
+      timed "$which" "$layers"
+      timed "$which" 1
+    done
+  done
+  count=$(($(letters "$work/text$layers") - $(letters "$work/text1")))
+  awk -v n="$qubits" -v count="$count" -v c="$(spent c)" -v each="$(spent each)" -v ours="$(spent ours)" -v runs="$runs" 'BEGIN {
+    unit = count * 2 ^ n * runs / 1e6
+    printf "%5d %5.2f %12.2f %14.2f %7.2f\n", n, c / unit, each / unit, ours / unit, ours / c
+  }'
 done

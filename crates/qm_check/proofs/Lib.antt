@@ -6,3 +6,4 @@ pub mod SlotLemmas
 pub mod TallyLemmas
 pub mod TapeLemmas
 pub mod TotalLemmas
+pub mod FirstFaults

@@ -4,7 +4,7 @@ ghost use Rattle.qm_instr.specs.Programs.{rank_of};
 ghost use Rattle.qm_check.specs.Totals.{totals_of, totals_over};
 
 use crate::Totals;
-use qm_instr::{Input, event_count, own_count, protocol_count};
+use qm_instr::{Input, MOST_INSTRUCTIONS, event_count, own_count, protocol_count};
 
 impl Totals {
     /// Of no instructions.
@@ -21,7 +21,7 @@ pub(crate) fn rank_totals(input: &Input, rank: u16) -> Totals
     ensures value { result ≡ totals_of (rank_of input.now rank).instructions }
     ensures events { result.events ≤ 500000 }
     ensures protocol { result.protocol ≤ 200000 }
-    ensures own { result.own ≤ 100000 }
+    ensures own { result.own ≤ MOST_INSTRUCTIONS }
 {
     let mut totals = Totals::NONE;
     for at in 0..input.count(rank) {

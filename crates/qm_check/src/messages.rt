@@ -7,7 +7,7 @@ ghost use Rattle.qm_check.specs.Messages.{lane_posted, match_fault};
 ghost use Rattle.qm_check.specs.Tallies.{code_order, tally, tally_in, plus, plus_at, rank_tally, lane_tally, plus_instruction, IsAtMost, first_mismatch, sends_listed};
 
 use crate::{Fault, LaneCount};
-use qm_instr::{Input, Instr, Kind, Lane, receive_lane, send_lane};
+use qm_instr::{Input, Instr, Kind, Lane, MOST_INSTRUCTIONS, receive_lane, send_lane};
 use std::alloc::{AllocError, Global};
 use std::collections::BTreeMap;
 
@@ -86,9 +86,10 @@ fn note_instruction(tallies: &mut Tallies, rank: u16, i: Instr) -> Result<(), Al
 /// Adds the messages of a rank.
 fn note_rank(tallies: &mut Tallies, input: &Input, rank: u16) -> Result<(), AllocError>
     requires known { rank < length input.now.ranks }
-    requires few { (a : Lane) → IsAtMost 100000 (tally_in tallies.old a) }
+    requires few { (a : Lane) → IsAtMost MOST_INSTRUCTIONS (tally_in tallies.old a) }
     ensures { let is = (rank_of input.now rank).instructions in
-        OnOk result ((a : Lane) → tally_in tallies.new a ≡ plus (tally_in tallies.old a) (rank_tally rank is a)) }
+        OnOk result ((a : Lane)
+        → tally_in tallies.new a ≡ plus (tally_in tallies.old a) (rank_tally rank is a)) }
 {
     for at in 0..input.count(rank) {
         let Some(i) = input.instr(rank, at) else {

@@ -6,12 +6,12 @@ ghost use Rattle.qm_check.specs.Tapes.{length_fault, tape_fault};
 
 use crate::Fault;
 use crate::counting::rank_totals;
-use qm_instr::Input;
+use qm_instr::{Input, MOST_OUTCOMES};
 
 /// The fault of a tape of which so many outcomes are needed.
 fn fault_of_length(rank: u16, own: bool, needs: u64, tape: &[bool]) -> Option<Fault>
     requires needs { needs ≤ 200000 }
-    requires has { length tape.now ≤ 1048576 }
+    requires has { length tape.now ≤ MOST_OUTCOMES }
     ensures { result ≡ length_fault rank own needs (length tape.now) }
 {
     let needs = needs as u32;

@@ -30,7 +30,8 @@ BcastLaw = (c : Circuit) (w : Wiring) (n root tag : ℕ) (q : ℕ → ℕ)
 abbrev pub UnbcastLaw : Type 0
 UnbcastLaw = (c : Circuit) (w v : Wiring) (n root tag end : ℕ) (q p : ℕ → ℕ)
     → Distinct (w.slot root (q root) ∷ copies w n root) → AreBlankIn (amp c) (copies w n root) → IsHeld w v root q p → (x : Wires)
-    → amp ((c ++ collective_letters w n root (λ r. Bcast (q r) root tag)) ++ collective_letters v n root (λ r. Unbcast (p r) root end)) x ≡ amp c x
+    → amp ((c ++ collective_letters w n root (λ r. Bcast (q r) root tag)) ++ collective_letters v n root (λ r. Unbcast (p r) root end)) x
+    ≡ amp c x
 
 -- the operand qubits, the root's first
 abbrev pub operands : Wiring → ℕ → ℕ → (ℕ → ℕ) → List Wire
@@ -47,7 +48,8 @@ ReduceLaw = (c : Circuit) (w : Wiring) (n root tag : ℕ) (q t : ℕ → ℕ)
 abbrev pub UnreduceLaw : Type 0
 UnreduceLaw = (c : Circuit) (w : Wiring) (n root tag end : ℕ) (q t : ℕ → ℕ)
     → Distinct (w.slot root (t root) ∷ operands w n root q) → (x : Wires)
-    → amp ((c ++ collective_letters w n root (λ r. Reduce (q r) (t r) root tag)) ++ collective_letters w n root (λ r. Unreduce (q r) (t r) root end)) x
+    → amp ((c ++ collective_letters w n root (λ r. Reduce (q r) (t r) root tag))
+    ++ collective_letters w n root (λ r. Unreduce (q r) (t r) root end)) x
     ≡ amp c x
 
 -- what a scatter renames: the qubit in slot q + d of the root to the wire that rank d gets
@@ -60,9 +62,13 @@ gathered w n root q = map (λ d. (w.slot d (q d), w.sent d root)) (others root n
 
 -- after C a scatter has C's amplitude with each wire's new name replaced by its old one, and 0 where an old name is one; so has a gather
 pub record ScatterLaw : Type 0 where
-  pub scatter : (w : Wiring) (n root tag : ℕ) (q : ℕ → ℕ) → collective_letters w n root (λ r. Scatter (q r) root tag) ≡ renaming (dealt w n root (q root))
-  pub gather : (w : Wiring) (n root tag : ℕ) (q : ℕ → ℕ) → collective_letters w n root (λ r. Gather (q r) root tag) ≡ renaming (gathered w n root q)
-  pub unscatter : (w : Wiring) (n root tag : ℕ) (q : ℕ → ℕ) → collective_letters w n root (λ r. Unscatter (q r) root tag) ≡ renaming (gathered w n root q)
-  pub ungather : (w : Wiring) (n root tag : ℕ) (q : ℕ → ℕ) → collective_letters w n root (λ r. Ungather (q r) root tag) ≡ renaming (dealt w n root (q root))
+  pub scatter : (w : Wiring) (n root tag : ℕ) (q : ℕ → ℕ)
+      → collective_letters w n root (λ r. Scatter (q r) root tag) ≡ renaming (dealt w n root (q root))
+  pub gather : (w : Wiring) (n root tag : ℕ) (q : ℕ → ℕ)
+      → collective_letters w n root (λ r. Gather (q r) root tag) ≡ renaming (gathered w n root q)
+  pub unscatter : (w : Wiring) (n root tag : ℕ) (q : ℕ → ℕ)
+      → collective_letters w n root (λ r. Unscatter (q r) root tag) ≡ renaming (gathered w n root q)
+  pub ungather : (w : Wiring) (n root tag : ℕ) (q : ℕ → ℕ)
+      → collective_letters w n root (λ r. Ungather (q r) root tag) ≡ renaming (dealt w n root (q root))
   pub renamed : (c : Circuit) (ps : List (Wire × Wire)) → Distinct (wires_in ps) → (x : Wires)
       → amp (c ++ renaming ps) x ≡ if has_old ps x then zero_number else amp c (with_old ps x)

@@ -9,7 +9,7 @@ use Rattle.qm_denot.specs.Circuits.{Amplitudes, Circuit, with_letters, amp, halv
 use Rattle.qm_denot.proofs.Amplitudes.{amp-append, halvings-append}
 use Rattle.qm_denot.proofs.Linear.{scaled, with_letters-scaled}
 
-regroup : (i j m n : ℕ) (z : Number) → i + j ≡ m + n → root2_times i (root2_times j z) ≡ root2_times m (root2_times n z)
+pub regroup : (i j m n : ℕ) (z : Number) → i + j ≡ m + n → root2_times i (root2_times j z) ≡ root2_times m (root2_times n z)
 regroup i j m n z e = sym (root2_times-more i j z) ∙ ap (λ k. root2_times k z) e ∙ root2_times-more m n z
 
 -- the amplitudes of C and letters after it

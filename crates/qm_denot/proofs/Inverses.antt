@@ -54,7 +54,7 @@ not_not : (b : Bool) → not (not b) ≡ b
 not_not true = refl
 not_not false = refl
 
-toggled_twice : (x : Wires) (w : Wire) → toggled (toggled x w) w ≡ x
+pub toggled_twice : (x : Wires) (w : Wire) → toggled (toggled x w) w ≡ x
 toggled_twice x w = put_twice x w _ _ ∙ put_has x w _ (sym (ap not (has-put_same x w (not (has x w))) ∙ not_not (has x w)))
 
 -- ---- each letter and its inverse

@@ -17,10 +17,11 @@ use Rattle.qm_denot.specs.ListStores.{listed_value, listed_store, Does}
 use Rattle.qm_denot.specs.LettersByPlace.{phase_at, flip_at, cross_at, sign_at, keep_at, had_at}
 use Rattle.qm_zomega.specs.NumberLists.{number_at, IsListOf, Reduces}
 use Rattle.qm_denot.specs.Sound.{Keeps}
-use Rattle.qm_denot.proofs.Sets.{has-put_same, has-put_other, put_twice, put_has}
+use Rattle.qm_denot.proofs.Sets.{has-put_other}
 use Rattle.qm_denot.proofs.PlaceLaws.{has-index, index-put, index_below, within-put}
 use Rattle.qm_denot.proofs.ReducedLaws.{Reduces-itself}
 use Rattle.qm_denot.proofs.PlainLaws.{keeps, reduced_list, does_letter, value_divisible, over_from_all}
+use Rattle.qm_denot.proofs.Inverses.{toggled_twice}
 
 -- ---- inside the live wires the rule of the letter, outside zero
 phase_inside : (b h : Bool) (k : ℕ) (z : Number) → cond b (cond h (omega_times k z) z) zero_number ≡ cond h (omega_times k (cond b z zero_number)) (cond b z zero_number)
@@ -134,11 +135,6 @@ not-not : (b : Bool) → not (not b) ≡ b
 not-not true = refl
 not-not false = refl
 
-toggled-toggled : (x : Wires) (w : Wire) → toggled (toggled x w) w ≡ x
-toggled-toggled x w =
-    put_twice x w (not (has x w)) (not (has (toggled x w) w))
-    ∙ ap (put x w) (ap not (has-put_same x w (not (has x w))) ∙ not-not (has x w)) ∙ put_has x w (has x w) refl
-
 turned_before : (h : Bool) (k : ℕ) (z : Number) → IsDivisible (cond h (omega_times k z) z) → IsDivisible z
 turned_before true k z d = (IsDivisible-omega k z).0 d
 turned_before false k z d = d
@@ -147,7 +143,7 @@ pub phase_before : (k : ℕ) (w : Wire) → DividesBefore (Phase k w)
 phase_before k w f all x = turned_before (has x w) k (f x) (all x)
 
 pub flip_before : (w : Wire) → DividesBefore (Flip w)
-flip_before w f all x = subst (λ y. IsDivisible (f y)) (toggled-toggled x w) (all (toggled x w))
+flip_before w f all x = subst (λ y. IsDivisible (f y)) (toggled_twice x w) (all (toggled x w))
 
 pub cx_before : (c t : Wire) → c ≢ t → DividesBefore (Cx c t)
 cx_before c t ne f all x = by_control (has x c) refl
@@ -155,7 +151,7 @@ cx_before c t ne f all x = by_control (has x c) refl
     by_control : (b : Bool) → has x c ≡ b → IsDivisible (f x)
     by_control true one =
         let still : has (toggled x t) c ≡ true = has-put_other x t (not (has x t)) c ne ∙ one in
-        subst (λ y. IsDivisible (f y)) (toggled-toggled x t)
+        subst (λ y. IsDivisible (f y)) (toggled_twice x t)
         (subst (λ b. IsDivisible (cond b (f (toggled (toggled x t) t)) (f (toggled x t)))) still (all (toggled x t)))
     by_control false none = subst (λ b. IsDivisible (cond b (f (toggled x t)) (f x))) none (all x)
 

@@ -1,4 +1,5 @@
 pub mod Sets
+pub mod WireTests
 pub mod NameLists
 pub mod Amplitudes
 pub mod Agreement

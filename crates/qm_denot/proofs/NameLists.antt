@@ -7,6 +7,7 @@ use Rattle.qm_denot.specs.WireLists.{Lacks, Distinct, lacks, without_wire}
 use Rattle.qm_denot.specs.Circuits.{Circuit}
 use Rattle.qm_denot.specs.Weights.{operands, also, names}
 use Rattle.qm_denot.proofs.Sets.{is_wire_itself, is_wire_other, same_from_is}
+use Rattle.std.proofs.lemmas.Bool.{and_parts}
 
 pub not_sym : {A : Type 0} {a b : A} → a ≢ b → b ≢ a
 not_sym ne p = ne (sym p)
@@ -15,24 +16,19 @@ pub other_from_is : (v w : Wire) → is_wire v w ≡ false → v ≢ w
 other_from_is v w e s = let i : is_wire v w ≡ true = subst (λ u. is_wire v u ≡ true) s (is_wire_itself v) in let k : ⊥ = cc in k
 
 -- ---- the tests
-both : (a b : Bool) → (a && b) ≡ true → (a ≡ true) × (b ≡ true)
-both true true e = (refl, refl)
-both true false e = cc
-both false b e = cc
-
-is_false : (b : Bool) → not b ≡ true → b ≡ false
+pub is_false : (b : Bool) → not b ≡ true → b ≡ false
 is_false true e = cc
 is_false false e = refl
 
 pub Lacks-from_test : (ws : List Wire) (w : Wire) → lacks ws w ≡ true → Lacks ws w
 Lacks-from_test [] w e = tt
-Lacks-from_test (v ∷ ws) w e = let b = both (not (is_wire v w)) (lacks ws w) e in (other_from_is v w (is_false (is_wire v w) b.0), Lacks-from_test ws w b.1)
+Lacks-from_test (v ∷ ws) w e = let b = and_parts (not (is_wire v w)) (lacks ws w) e in (other_from_is v w (is_false (is_wire v w) b.0), Lacks-from_test ws w b.1)
 
 pub lacks-where_Lacks : (ws : List Wire) (w : Wire) → Lacks ws w → lacks ws w ≡ true
 lacks-where_Lacks [] w l = refl
 lacks-where_Lacks (v ∷ ws) w l = let a = is_wire_other v w l.0 in let b = lacks-where_Lacks ws w l.1 in rw (a, b) refl
 
--- a list does not both lack a wire and have it
+-- a list does not and_parts lack a wire and have it
 pub lacking_and_having : {P : Type 0} (ws : List Wire) (w : Wire) → Lacks ws w → lacks ws w ≡ false → P
 lacking_and_having ws w l e = let t = lacks-where_Lacks ws w l in absurd (let k : ⊥ = cc in k)
 

@@ -52,5 +52,11 @@ reduced_where_kept live zs (suc k) kept = elim (all_or_some live (listed_value l
 ]
 
 -- and sound
-pub listed_sound : (n : ℕ) (live : List Wire) (k : ℕ) (zs : List Zw) → length live ≤ n → Keeps live zs k → IsSound (listed_store n live k zs)
-listed_sound n live k zs few kept = record { distinct = kept.distinct; few = few; blank = kept.blank; reduced = reduced_where_kept live zs k kept }
+pub listed_sound : (n : ℕ) (live : List Wire) (k : ℕ) (zs : List Zw)
+    → length live ≤ n → Keeps live zs k → IsSound (listed_store n live k zs)
+listed_sound n live k zs few kept = record {
+  distinct = kept.distinct;
+  few = few;
+  blank = kept.blank;
+  reduced = reduced_where_kept live zs k kept;
+}

@@ -264,5 +264,6 @@ impl Amps for PlainAmps {
         self.numerators[index_at(&self.live, ones)]
     }
 
-    ghost sound = { λ s. listed_sound s.capacity s.live.items s.exponent s.numerators.items s.few s.kept };
+    ghost sound = { λ s. listed_sound s.capacity s.live.items s.exponent s.numerators.items
+        s.few s.kept };
 }

@@ -12,7 +12,7 @@ use Rattle.qm_check.specs.Checks.{IsReady}
 use Rattle.qm_proto.specs.Model.Ideal.{IdealState, ideal_replay, width_from}
 use Rattle.qm_proto.proofs.Firsts.{one_run-ideal}
 use Rattle.qm_runs.proofs.Confluence.OnePlace.{InSlot}
-use Rattle.qm_ideal.specs.OneCircuits.{OneView, RankEnd, IsOneCircuit, slot_of, wires_in, no_rank}
+use Rattle.qm_ideal.specs.OneCircuits.{OneView, RankEnd, IsOneCircuit, slot_of, wires_in, no_rank, most_letters}
 use Rattle.qm_ideal.specs.OneRuns.{IsItsEnd}
 use Rattle.qm_ideal.proofs.RunBounds.{letters_bound}
 use Rattle.qm_eval.specs.Holding.{IsOneSlot, HoldsCircuit}
@@ -37,10 +37,10 @@ module _ (p : Programs) (ready : IsReady p) (ranges : IsInRange p) (m : OneView)
   all_follow : AllFollow [] [] m.letters
   all_follow = subst (AllFollow [] []) (sym one.letters) run_tracked.follow
 
-  pub letters_few : length m.letters ≤ 3200000
+  pub letters_few : length m.letters ≤ most_letters
   letters_few =
       let end : IsItsEnd p s = record { ranks = one.ranks; run = one.run; state = refl } in
-      subst (λ ls. length ls ≤ 3200000) (sym one.letters) (letters_bound p ranges s end)
+      subst (λ ls. length ls ≤ most_letters) (sym one.letters) (letters_bound p ranges s end)
 
   slot_is : (r q : ℕ) (w : Wire) → slot_of m r q ≡ Some w → s.tables.slots r q ≡ Some w
   slot_is r q w e = sym (one.slots r q) ∙ e

@@ -12,7 +12,9 @@ use Rattle.qm_check.specs.Operands.{uses_of}
 use Rattle.qm_check.specs.Slots.{HasFewSlots, is_full_after, full_after}
 use Rattle.qm_check.proofs.SlotLemmas.{instruction_slots-few, full_after_more}
 use Rattle.qm_ideal.specs.OneCircuits.{wires_below, wires_in}
-use Rattle.qm_eval.proofs.ListLemmas.{and_false, lacks-append, lacks-itself}
+use Rattle.qm_eval.proofs.ListLemmas.{and_false, lacks-append}
+use Rattle.qm_proto.proofs.Meetings.{same_or_below}
+use Rattle.qm_denot.proofs.NameLists.{lacks-first}
 
 -- ---- sixteen slots
 few_fills : (s q : ℕ) (before : Bool) → s < 16 → cond (s == q) true before ≡ true → (before ≡ true) ⊎ (q < 16)
@@ -84,15 +86,12 @@ module _ (f : ℕ → ℕ → Option Wire) where
   has_right : (xs ys : List Wire) (w : Wire) → lacks ys w ≡ false → lacks (xs ++ ys) w ≡ false
   has_right xs ys w e = lacks-append xs ys w ∙ ap (λ b. lacks xs w && b) e ∙ and_false (lacks xs w)
 
-  same_or_below : (k n : ℕ) → k < suc n → (k ≡ n) ⊎ (k < n)
-  same_or_below k n h = grind arith
-
   row_has : (r q n : ℕ) (w : Wire) → f r q ≡ Some w → q < n → lacks (wires_below (f r) n) w ≡ false
   row_has r q zero w e below = absurd (omega (arith, below))
   row_has r q (suc n) w e below = elim (same_or_below q n below) [
     | inl same ↦
         has_right (wires_below (f r) n) (option_to_list (f r n)) w
-        (ap (λ o. lacks (option_to_list o) w) (ap (f r) (sym same) ∙ e) ∙ lacks-itself [] w)
+        (ap (λ o. lacks (option_to_list o) w) (ap (f r) (sym same) ∙ e) ∙ lacks-first [] w)
     | inr less ↦ has_left (wires_below (f r) n) (option_to_list (f r n)) w (row_has r q n w e less)
   ]
 

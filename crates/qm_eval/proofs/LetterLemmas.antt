@@ -11,6 +11,7 @@ use Rattle.qm_proto.specs.Model.Ideal.{made_fresh}
 use Rattle.qm_eval.specs.Live.{HasRoomFor, MakesLive, live_past, AllMayFollow, live_through}
 use Rattle.qm_eval.specs.Overflows.{OverflowsAt, IsFirstOverflow, NeverOverflows}
 use Rattle.qm_eval.proofs.OverflowLemmas.{may_grow, overflows_here, fits_here}
+use Rattle.qm_ideal.specs.OneCircuits.{most_letters}
 
 -- what stands for a letter past the end
 abbrev pub no_letter : Letter
@@ -54,9 +55,9 @@ module _ (s t u : Store) (ls : List Letter) (n : ℕ) (l : Letter) (within : n <
     stands_here : StandsFor u (take n ls)
     stands_here = made.stands (take n ls) done.stands
 
-    pub may_here : length ls ≤ 3200000 → MayApply l u
+    pub may_here : length ls ≤ most_letters → MayApply l u
     may_here few =
-        let long : length (take n ls) ≤ 3200000 = let e = length-take n ls in omega (arith, e, few, within) in
+        let long : length (take n ls) ≤ most_letters = let e = length-take n ls in omega (arith, e, few, within) in
         follow_here.0.may u made.live (may_grow u (take n ls) stands_here long)
 
     pub first_here : Overflows l u → IsFirstOverflow ls n

@@ -6,8 +6,8 @@ use Rattle.qm_denot.specs.WireLists.{lacks, without_wire, with_renamed}
 use Rattle.qm_denot.specs.Weights.{also}
 use Rattle.std.proofs.lemmas.Bool.{false_from_ne_true}
 use Rattle.qm_denot.proofs.LiveWires.{absent_where_lacked, Lacks-from_absent}
-use Rattle.qm_denot.proofs.NameLists.{Lacks-from_test, lacks-where_Lacks}
-use Rattle.qm_denot.proofs.Sets.{same_from_is, is_wire_itself}
+use Rattle.qm_denot.proofs.NameLists.{Lacks-from_test, lacks-where_Lacks, lacks-first}
+use Rattle.qm_denot.proofs.Sets.{same_from_is}
 use Rattle.qm_eval.specs.Live.{with_live, all_live}
 
 -- ---- tests
@@ -119,11 +119,8 @@ absent_where ws w e = absent_where_lacked ws w (Lacks-from_test ws w e)
 pub made_live : (ws live : List Wire) (w : Wire) → lacks ws w ≡ false → Contains (all_live live ws) w
 made_live ws live w e = has_where (all_live live ws) w (lacks-all_live ws live w ∙ ap (λ b. lacks live w && b) e ∙ and_false (lacks live w))
 
-pub lacks-itself : (ws : List Wire) (w : Wire) → lacks (w ∷ ws) w ≡ false
-lacks-itself ws w = ap (λ b. not b && lacks ws w) (is_wire_itself w)
-
 pub lacks-second : (ws : List Wire) (v w : Wire) → lacks (v ∷ w ∷ ws) w ≡ false
-lacks-second ws v w = ap (λ b. not (is_wire v w) && b) (lacks-itself ws w) ∙ and_false (not (is_wire v w))
+lacks-second ws v w = ap (λ b. not (is_wire v w) && b) (lacks-first ws w) ∙ and_false (not (is_wire v w))
 
 -- ---- a wire that is or isn't live
 pub lacked_if_absent : (ws : List Wire) (w : Wire) → ¬ (Contains ws w) → lacks ws w ≡ true

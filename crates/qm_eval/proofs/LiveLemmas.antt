@@ -13,7 +13,8 @@ use Rattle.qm_denot.proofs.OperandFacts.{Each, EachOperand}
 use Rattle.qm_denot.proofs.Sets.{is_wire_other}
 use Rattle.qm_proto.specs.Model.Ideal.{made_fresh}
 use Rattle.qm_eval.specs.Live.{all_live, ready_for, live_past, live_through}
-use Rattle.qm_eval.proofs.ListLemmas.{and_false, lacks-append, lacks-all_live, lacks-also, lacks-without, lacks-renamed, absent_where, made_live, lacks-itself, lacks-second}
+use Rattle.qm_eval.proofs.ListLemmas.{and_false, lacks-append, lacks-all_live, lacks-also, lacks-without, lacks-renamed, absent_where, made_live, lacks-second}
+use Rattle.qm_denot.proofs.NameLists.{lacks-first}
 
 -- ---- one letter
 -- whether the letter gives the wire up
@@ -38,7 +39,7 @@ lacks-past (Take v m) live w e = lacks-without (all_live live (v ∷ [])) v w e 
 lacks-past (Pair a b) live w e = lacks-append live (a ∷ b ∷ []) w
 lacks-past (Rename a b) live w e =
     let ready = all_live live (a ∷ []) in
-    let had : lacks ready a ≡ false = lacks-all_live (a ∷ []) live a ∙ ap (λ x. lacks live a && x) (lacks-itself [] a) ∙ and_false (lacks live a) in
+    let had : lacks ready a ≡ false = lacks-all_live (a ∷ []) live a ∙ ap (λ x. lacks live a && x) (lacks-first [] a) ∙ and_false (lacks live a) in
     lacks-renamed ready a b w e
     ∙ ap (λ x. lacks ready w && (x || not (is_wire b w))) had
     ∙ ap (λ x. x && not (is_wire b w)) (lacks-all_live (a ∷ []) live w)
@@ -143,21 +144,21 @@ module _ (live : List Wire) (s : Store) where
   there ws w is e = subst (λ vs. Contains vs w) (sym is) (made_live ws live w e)
 
   may_apply : (l : Letter) → IsProper l → MayCome live l → s.live ≡ ready_for l live → MayGrow s → MayApply l s
-  may_apply (Phase k w) proper come is grow = (come, there (w ∷ []) w is (lacks-itself [] w))
-  may_apply (Flip w) proper come is grow = there (w ∷ []) w is (lacks-itself [] w)
-  may_apply (Had w) proper come is grow = (there (w ∷ []) w is (lacks-itself [] w), grow)
+  may_apply (Phase k w) proper come is grow = (come, there (w ∷ []) w is (lacks-first [] w))
+  may_apply (Flip w) proper come is grow = there (w ∷ []) w is (lacks-first [] w)
+  may_apply (Had w) proper come is grow = (there (w ∷ []) w is (lacks-first [] w), grow)
   may_apply (Cx c t) proper come is grow =
-      (there (c ∷ t ∷ []) c is (lacks-itself (t ∷ []) c), there (c ∷ t ∷ []) t is (lacks-second [] c t), λ e. proper.0.0 (sym e))
+      (there (c ∷ t ∷ []) c is (lacks-first (t ∷ []) c), there (c ∷ t ∷ []) t is (lacks-second [] c t), λ e. proper.0.0 (sym e))
   may_apply (Cz c t) proper come is grow =
-      (there (c ∷ t ∷ []) c is (lacks-itself (t ∷ []) c), there (c ∷ t ∷ []) t is (lacks-second [] c t), λ e. proper.0.0 (sym e))
+      (there (c ∷ t ∷ []) c is (lacks-first (t ∷ []) c), there (c ∷ t ∷ []) t is (lacks-second [] c t), λ e. proper.0.0 (sym e))
   may_apply (Pair a b) proper come is grow = absurd come
-  may_apply (Keep w m) proper come is grow = there (w ∷ []) w is (lacks-itself [] w)
-  may_apply (Take w m) proper come is grow = there (w ∷ []) w is (lacks-itself [] w)
+  may_apply (Keep w m) proper come is grow = there (w ∷ []) w is (lacks-first [] w)
+  may_apply (Take w m) proper come is grow = there (w ∷ []) w is (lacks-first [] w)
   may_apply (Rename a b) proper come is grow =
       let other : is_wire a b ≡ false = is_wire_other a b (λ e. proper.0.0 (sym e)) in
       let lacked : lacks (all_live live (a ∷ [])) b ≡ true =
       lacks-all_live (a ∷ []) live b ∙ ap (λ x. x && (not (is_wire a b) && true)) come ∙ ap (λ x. not x && true) other in
-      (there (a ∷ []) a is (lacks-itself [] a), λ c. absent_where (all_live live (a ∷ [])) b lacked (subst (λ vs. Contains vs b) is c))
+      (there (a ∷ []) a is (lacks-first [] a), λ c. absent_where (all_live live (a ∷ [])) b lacked (subst (λ vs. Contains vs b) is c))
 
 -- where these wires are live and those named, the letter finds its operands
 pub record Follows (live named : List Wire) (l : Letter) : Type 0 where

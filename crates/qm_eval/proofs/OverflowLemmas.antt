@@ -1,35 +1,22 @@
 -- A store tells whether a letter leaves the range after the circuit for which it stands
-use Rattle.std.proofs.Common.{◌≡◌, ℕ, ◌<◌, ◌≤◌, ◌⊎◌, inl, inr, [], ◌∷◌, length, take, Some, slice_get, sym, subst, ◌∙◌, arith}
+use Rattle.std.proofs.Common.{◌≡◌, ℕ, ◌<◌, ◌≤◌, ◌⊎◌, inl, inr, length, take, Some, slice_get, sym, subst, ◌∙◌, arith}
 use Rattle.std.proofs.Math.Path.{fun_ext}
 use Rattle.std.proofs.lemmas.Option.{same_Some}
 use Rattle.qm_denot.specs.declared.Letter.{Letter}
 use Rattle.qm_denot.specs.declared.Letter.TheVariants.{Phase, Flip, Had, Cx, Cz, Pair, Keep, Take, Rename}
-use Rattle.qm_denot.specs.Circuits.{Circuit, halves_of, halvings}
+use Rattle.qm_denot.specs.Circuits.{Circuit}
 use Rattle.qm_denot.specs.Stores.{Store, StandsFor, MayGrow, LeavesRange, Overflows}
 use Rattle.qm_denot.proofs.Unique.{one_form, exponent_at_most}
 use Rattle.qm_eval.specs.Overflows.{OverflowsAt}
 use Rattle.qm_eval.specs.Laws.{FirstOverflowLaw}
+use Rattle.qm_runs.proofs.Tables.Counting.{halvings-le}
+use Rattle.qm_ideal.specs.OneCircuits.{most_letters}
 
 -- ---- the exponent of a short circuit can grow
-halves_few : (l : Letter) → halves_of l ≤ 1
-halves_few (Had w) = omega arith
-halves_few (Pair a b) = omega arith
-halves_few (Phase k w) = omega arith
-halves_few (Flip w) = omega arith
-halves_few (Cx c t) = omega arith
-halves_few (Cz c t) = omega arith
-halves_few (Keep w m) = omega arith
-halves_few (Take w m) = omega arith
-halves_few (Rename a b) = omega arith
-
-halvings_few : (c : Circuit) → halvings c ≤ length c
-halvings_few [] = omega arith
-halvings_few (l ∷ ls) = let one = halves_few l in let rest = halvings_few ls in omega (arith, one, rest)
-
-pub may_grow : (s : Store) (c : Circuit) → StandsFor s c → length c ≤ 3200000 → MayGrow s
+pub may_grow : (s : Store) (c : Circuit) → StandsFor s c → length c ≤ most_letters → MayGrow s
 may_grow s c stands few =
     let least = exponent_at_most s.value s.exponent c stands.form in
-    let most = halvings_few c in
+    let most = halvings-le c in
     omega (arith, least, most, few)
 
 -- ---- the letter leaves the range

@@ -17,13 +17,13 @@ use Rattle.qm_runs.proofs.Confluence.Diamond.{next_is}
 use Rattle.qm_runs.proofs.Confluence.Effects.{stepped}
 use Rattle.qm_runs.proofs.Confluence.Helpers.{next_where_able}
 use Rattle.qm_runs.proofs.Confluence.NamedWires.{IsWellState, state_next}
-use Rattle.qm_runs.proofs.Confluence.OnePlace.{IsCounted}
 use Rattle.qm_runs.proofs.Confluence.ProperLetters.{letters_proper}
 use Rattle.qm_runs.proofs.Confluence.WellIdeal.{well_start}
 use Rattle.qm_eval.specs.Live.{live_past, live_through}
 use Rattle.qm_eval.proofs.ListLemmas.{lacks-also}
 use Rattle.qm_eval.proofs.LiveLemmas.{Tracks, tracks_weaker, AllFollow, named_through, follow-append, pass}
 use Rattle.qm_eval.proofs.StepLemmas.{IsSomewhere, IsKnown, letters_come, operands_known, known_after}
+use Rattle.qm_runs.specs.Following.Follows.{IsCounted}
 
 -- ---- what is named after letters was named before, or is an operand of theirs
 module _ (P : Wire → Type 0) where

@@ -1,7 +1,7 @@
 -- One step of an ideal run: where its wires come from, and which of them its letters give up
 use Rattle.std.proofs.Common.{◌≡◌, ℕ, ◌<◌, ◌⊎◌, inl, inr, nat_eq, nat_lt, Bool, true, false, ◌||◌, cond, List, [], ◌∷◌, ◌++◌, length, drop, fold, Option, Some, None, slice_index_or, Contains, refl, sym, ap, subst, ◌∙◌, arith}
 use Rattle.std.proofs.lemmas.Bool.{false_from_ne_true}
-use Rattle.std.proofs.lemmas.List.Elements.{Contains-push_cases, Contains-append_right}
+use Rattle.std.proofs.lemmas.List.Elements.{Contains-push_cases}
 use Rattle.std.proofs.lemmas.Option.{same_Some}
 use Rattle.qm_denot.specs.declared.Wire.{Wire}
 use Rattle.qm_denot.specs.declared.Letter.{Letter}
@@ -33,6 +33,7 @@ use Rattle.qm_runs.proofs.Confluence.LetterWires.{IsReached, Made, Own, Offered,
 use Rattle.qm_runs.proofs.Confluence.OnePlace.{ArePlaced, AllCarried, Spot, InSlot, OnLane, Stands, carries}
 use Rattle.qm_runs.proofs.Confluence.WellIdeal.{IsWell, at_step}
 use Rattle.qm_eval.proofs.LiveLemmas.{GivesNone, MayCome, AllMayCome, given}
+use Rattle.qm_runs.proofs.Following.IdealWires.{contains_drop}
 
 -- ---- where a wire stands after acts
 -- some act brings the wire to a place
@@ -41,10 +42,6 @@ Brings w [] = ⊥
 Brings w (SlotSet q o ∷ acts) = (o ≡ Some w) ⊎ Brings w acts
 Brings w (Puts a x ∷ acts) = (x ≡ Carried w) ⊎ Brings w acts
 Brings w (_ ∷ acts) = Brings w acts
-
-contains_drop : (xs : List Load) (x : Load) → Contains (drop 1 xs) x → Contains xs x
-contains_drop [] x h = h
-contains_drop (y ∷ ys) x h = Contains-append_right (y ∷ []) ys x h
 
 module _ (w : Wire) where
   slot_from : (q : ℕ) (acts : List IdealAct) (o : Option Wire) → fold (slot_act q) o acts ≡ Some w → (o ≡ Some w) ⊎ Brings w acts

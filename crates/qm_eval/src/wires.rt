@@ -57,7 +57,8 @@ pub(crate) fn make_operands_live<A: Amps>(amps: &mut A, letter: Letter)
 pub(crate) fn make_slots_live<A: Amps>(amps: &mut A, circuit: &OneCircuit, rank: u16)
     requires able { A.able }
     requires room { HasRoomFor (wires_below (slot_of circuit.now rank) 16) (A.store amps.old) }
-    ensures { MakesLive (wires_below (slot_of circuit.now rank) 16) (A.store amps.old) (A.store amps.new) }
+    ensures { MakesLive (wires_below (slot_of circuit.now rank) 16)
+        (A.store amps.old) (A.store amps.new) }
 {
     for q in 0..16 {
         if let Some(wire) = circuit.slot(rank, q) {

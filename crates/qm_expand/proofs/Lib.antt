@@ -13,3 +13,5 @@ pub mod TapeLemmas
 pub mod TreeWalk
 pub mod OneReading
 pub mod ReadLemmas
+pub mod ReadRanges
+pub mod SomeReading

@@ -11,7 +11,8 @@ use Rattle.qm_expand.specs.Steps.{Outcome, ◌>>=◌}
 use Rattle.qm_expand.specs.Values.{Scope}
 use Rattle.qm_expand.specs.Drafts.{Draft, with_turn}
 use Rattle.qm_expand.specs.Expansion.{Lines, each_turn, turn_count, inside}
-use Rattle.qm_expand.specs.Walk.{Bytes, Walking, Valued, bytes_in, own_len, walk, stepped, looped, value_at}
+use Rattle.qm_expand.specs.Walk.{Bytes, Walking, Valued, bytes_in, own_len, walk, stepped, looped, turned, value_at}
+use Rattle.qm_expand.proofs.StepLemmas.{bind-assoc}
 
 -- a walk whose bound is m, as its first step and the rest
 pub record Stepped (bytes : Bytes) (lines : Lines) (m : ℕ) (s : Scope) (number : ℕ) (rest : List Node) (node : Node) (own next : List Node) (len : ℕ) (d : Draft) : Type 0 where
@@ -85,15 +86,24 @@ looped-at bytes lines body s number node own rest inner d a b line on rest_is in
     ∙ ap (λ xs. each_turn line (λ i e. body (inside s (bytes (node.token + 1)) i) (number + a.used + b.used) xs e) (turn_count a.value b.value) a.value d)
     (sym (inner_is ∙ ap (drop b.used) rest_is))
 
--- the turn k of a loop is counted, and then its body is walked
-pub turned-body : (line : ℕ) (body : Scope → Draft → Outcome Draft) (inner_scope : ℤ → Scope) (count k : ℕ) (a : ℤ) (d e : Draft) (r : Scope)
-    → k < count → with_turn line d ≡ Ok e → r ≡ inner_scope (a +ℤ pos k)
-    → each_turn line (λ i f. body (inner_scope i) f) (count - k) (a +ℤ pos k) d
-    ≡ (body r e >>= λ f. each_turn line (λ i f. body (inner_scope i) f) (count - (k + 1)) (a +ℤ pos (k + 1)) f)
-turned-body line body inner_scope count k a d e r low counted is =
-    each_turn-more line (λ i f. body (inner_scope i) f) count k a d low
-    ∙ ap (λ o. o >>= λ e. body (inner_scope (a +ℤ pos k)) e >>= λ f. each_turn line (λ i f. body (inner_scope i) f) (count - (k + 1)) (a +ℤ pos (k + 1)) f) counted
-    ∙ ap (λ t. body t e >>= λ f. each_turn line (λ i f. body (inner_scope i) f) (count - (k + 1)) (a +ℤ pos (k + 1)) f) (sym is)
+-- the nodes of the body are among the loop's
+pub inner-fits : (n used end : ℕ) (own rest inner : List Node) → rest ≡ drop used own → inner ≡ drop end rest → length own ≤ n → length inner ≤ n
+inner-fits n used end own rest inner rest_is inner_is few =
+    let r = ap length rest_is ∙ length-drop used own in
+    let i = ap length inner_is ∙ length-drop end rest in
+    omega arith
+
+-- turn k of a loop, in which its name has a value, and the turns behind it
+pub turns-next : (body : Walking) (s : Scope) (bytes : Bytes) (line start count k : ℕ) (inner : List Node) (a : ℤ) (word : ℕ) (name : code_binding.Binding) (d : Draft)
+    → k < count → name ≡ record { token = word; value = a +ℤ pos k }
+    → each_turn line (λ i e. body (inside s (bytes word) i) start inner e) (count - k) (a +ℤ pos k) d
+    ≡ (turned body line (inside s (bytes name.token) name.value) start inner d
+    >>= λ f. each_turn line (λ i e. body (inside s (bytes word) i) start inner e) (count - (k + 1)) (a +ℤ pos (k + 1)) f)
+turns-next body s bytes line start count k inner a word name d low is =
+    let left : Draft → Outcome Draft = λ f. each_turn line (λ i e. body (inside s (bytes word) i) start inner e) (count - (k + 1)) (a +ℤ pos (k + 1)) f in
+    each_turn-more line (λ i e. body (inside s (bytes word) i) start inner e) count k a d low
+    ∙ sym (bind-assoc (with_turn line d) (body (inside s (bytes word) (a +ℤ pos k)) start inner) left)
+    ∙ ap (λ (x : code_binding.Binding). turned body line (inside s (bytes x.token) x.value) start inner d >>= left) (sym is)
 
 pub same_Ok : {A : Type 0} (x y : A) → ◌≡◌ {A = Outcome A} (Ok x) (Ok y) → x ≡ y
 same_Ok x y e = grind arith

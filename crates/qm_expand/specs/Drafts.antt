@@ -1,8 +1,10 @@
 -- The programs as far as they are expanded
 use Rattle.std.specs.Prelude.{ℕ, ◌+◌, nat_lt, Bool, true, ◌&&◌, List, [], ◌∷◌, ◌++◌, if◌then◌else◌, Ok, Err}
 use Rattle.qm_instr.specs.declared.Instr.{Instr}
+use Rattle.qm_instr.specs.declared.programs.TheConstants.{MOST_INSTRUCTIONS}
 use Rattle.qm_instr.specs.Operands.{slots_of, bits_of}
 use Rattle.qm_instr.specs.Programs.{Programs, rank_of, with_rank, with_instruction, instruction_total}
+use Rattle.qm_expand.specs.declared.draft.TheConstants.{MOST_TURNS}
 use Rattle.qm_expand.specs.Steps.{Outcome, ◌>>=◌, OutOfRange, TooMany}
 
 -- the programs of all ranks, and how many turns all loops have had
@@ -24,7 +26,9 @@ has_operands qubits i = all_below qubits (slots_of i) && all_below 32 (bits_of i
 -- an instruction of a rank at the end of its program, unless it would be the 100,001st of all ranks
 abbrev pub counted : ℕ → ℕ → Instr → Draft → Outcome Draft
 counted line rank i d =
-    if nat_lt (instruction_total d.programs) 100000 then Ok (record d { programs = with_instruction d.programs rank i }) else Err (TooMany line)
+    if nat_lt (instruction_total d.programs) MOST_INSTRUCTIONS
+    then Ok (record d { programs = with_instruction d.programs rank i })
+    else Err (TooMany line)
 
 abbrev pub with_made : ℕ → ℕ → Instr → Draft → Outcome Draft
 with_made line rank i d = if has_operands (rank_of d.programs rank).qubits i then counted line rank i d else Err (OutOfRange line)
@@ -36,7 +40,7 @@ with_each line rank (i ∷ is) d = with_made line rank i d >>= with_each line ra
 
 -- one more turn of a loop, unless it would be the 1,000,001st of all ranks
 abbrev pub with_turn : ℕ → Draft → Outcome Draft
-with_turn line d = if nat_lt d.turns 1000000 then Ok (record d { turns = d.turns + 1 }) else Err (TooMany line)
+with_turn line d = if nat_lt d.turns MOST_TURNS then Ok (record d { turns = d.turns + 1 }) else Err (TooMany line)
 
 -- outcomes at the end of a tape
 abbrev pub with_outcomes : Bool → ℕ → List Bool → Programs → Programs

@@ -1,13 +1,18 @@
 -- The values of the code, as the definitions see them
-use Rattle.std.specs.Prelude.{◌≡◌, ℕ, ℤ, List, ◌∷◌, map, Result, Ok, Err}
+use Rattle.std.specs.Prelude.{◌≡◌, ℕ, ℤ, List, [], ◌∷◌, map, Result, Ok, Err}
 use Rattle.qm_lex.specs.declared.tokens.Token.{Token}
+use Rattle.qm_lex.specs.Lexing.{token_list}
+use Rattle.qm_lex.specs.Spans.{LieIn}
 use Rattle.qm_expand.specs.declared.ReadError.{ReadError}
 use Rattle.qm_expand.specs.declared.values.Scope.{Scope}
+use Rattle.qm_expand.specs.declared.values.Context.{Context}
 use Rattle.qm_expand.specs.declared.values.Binding.{Binding}
 use Rattle.qm_expand.specs.declared.values.Valued.{Valued}
 use Rattle.qm_expand.specs.declared.operands.Operands.{Operands}
 use Rattle.qm_expand.specs.declared.draft.Draft.{Draft}
 use Rattle.qm_expand.specs.Steps.{Outcome}
+use Rattle.qm_expand.specs.Expansion.{Lines}
+use Rattle.qm_expand.specs.Reading.{lines_of}
 use Rattle.qm_expand.specs.Values as values
 use Rattle.qm_expand.specs.Drafts as drafts
 use Rattle.qm_expand.specs.Walk as walk
@@ -22,6 +27,23 @@ name_in text tokens b = record { name = walk.bytes_in text tokens b.token; value
 
 abbrev pub names_in : List ℕ → List Token → List Binding → List values.Binding
 names_in text tokens names = map (name_in text tokens) names
+
+-- the tokens of a context lie in its text; their bytes and their lines; and what its rank knows there
+abbrev pub AreWords : Context → Type 0
+AreWords c = LieIn c.text.now (token_list c.tokens.now)
+
+abbrev pub words_of : Context → walk.Bytes
+words_of c = walk.bytes_in c.text.now (token_list c.tokens.now)
+
+abbrev pub word_lines : Context → Lines
+word_lines c = lines_of (token_list c.tokens.now)
+
+abbrev pub scope_in : Context → values.Scope
+scope_in c = scope_of c.scope (names_in c.text.now (token_list c.tokens.now) c.names.now)
+
+-- no rank of the code is wider than its numbers
+abbrev pub widest : values.Scope
+widest = record { rank = 0; ranks = 65535; qubits = 255; names = [] }
 
 abbrev pub value_seen : Valued → walk.Valued
 value_seen v = record { value = v.value; used = v.used }

@@ -1,5 +1,6 @@
 -- The expansion as a walk over the nodes of a source tree, which is how it is computed. Lists of nodes that no tree has are refused too
 use Rattle.std.specs.Prelude.{◌≡◌, ℕ, zero, suc, ◌+◌, ◌-◌, min, nat_le, nat_lt, ◌==◌, ◌&&◌, replicate, ℤ, pos, Bool, true, false, if◌then◌else◌, List, [], ◌∷◌, length, map, take, drop, slice_get, slice_index, Option, Some, None, Result, Ok, Err}
+use Rattle.qm_instr.specs.declared.programs.TheConstants.{MOST_OUTCOMES}
 use Rattle.qm_instr.specs.Programs.{Programs, RankProgram, idle_rank, rank_of}
 use Rattle.qm_collect.specs.declared.Collective.{Collective}
 use Rattle.qm_collect.specs.Table.{instructions_at}
@@ -23,7 +24,7 @@ use Rattle.qm_expand.specs.declared.made.Made.TheVariants as makes
 use Rattle.qm_expand.specs.Steps.{Outcome, ◌>>=◌, UnknownName, OutOfRange, TooMany}
 use Rattle.qm_expand.specs.Values.{Scope, Values, no_values, with_value, ranged, named, computed, limit, within}
 use Rattle.qm_expand.specs.Table.{made, gate_made}
-use Rattle.qm_expand.specs.Drafts.{Draft, draft, with_each, with_outcomes}
+use Rattle.qm_expand.specs.Drafts.{Draft, draft, with_each, with_turn, with_outcomes}
 use Rattle.qm_expand.specs.Expansion.{Lines, can_be_called, with_made_by, under, each_turn, turn_count, inside, rank_scope}
 
 -- what a call answers: a value, the first fault, or want of memory
@@ -154,12 +155,18 @@ tape_of own r = if own then r.own else r.protocol
 -- outcomes at the end of a tape, which has at most 1,048,576
 abbrev pub appended : ℕ → Bool → ℕ → List Bool → Programs → Outcome Programs
 appended line own rank ms p =
-    if nat_le (length (tape_of own (rank_of p rank)) + length ms) 1048576 then Ok (with_outcomes own rank ms p) else Err (TooMany line)
+    if nat_le (length (tape_of own (rank_of p rank)) + length ms) MOST_OUTCOMES
+    then Ok (with_outcomes own rank ms p)
+    else Err (TooMany line)
 
 -- ---- loops
 -- a body in a scope, whose first node has this number
 abbrev pub Walking : Type 0
 Walking = Scope → ℕ → List Node → Draft → Outcome Draft
+
+-- one turn of a loop, counted before its body
+abbrev pub turned : Walking → ℕ → Walking
+turned body line s number inner d = with_turn line d >>= body s number inner
 
 abbrev pub looped : Bytes → Lines → Walking → Scope → ℕ → Node → List Node → Draft → Outcome Draft
 looped bytes lines body s number node own d =
@@ -173,7 +180,8 @@ is_for what.For = true
 is_for _ = false
 
 abbrev pub stepped : Bytes → Lines → Walking → Scope → ℕ → Node → List Node → Draft → Outcome Draft
-stepped bytes lines body s number node own d = if is_for node.what then looped bytes lines body s number node own d else called bytes lines s node own d
+stepped bytes lines body s number node own d =
+    if is_for node.what then looped bytes lines body s number node own d else called bytes lines s node own d
 
 -- how many of so many nodes belong to a node; the first of them has this number
 abbrev pub own_len : Node → ℕ → ℕ → ℕ

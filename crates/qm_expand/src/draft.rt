@@ -7,17 +7,11 @@ use crate::ReadError;
 use crate::ranges::{can_be_called, has_operands};
 use crate::values::Scope;
 use qm_collect::{Collective, count, instr_at};
-use qm_instr::{Input, Instr};
+use qm_instr::{Input, Instr, MOST_INSTRUCTIONS, MOST_OUTCOMES};
 use std::alloc::{AllocError, Global};
-
-/// How many instructions all ranks may have together.
-const MOST_INSTRUCTIONS: u32 = 100_000;
 
 /// How many turns the loops of all ranks may have together.
 const MOST_TURNS: u32 = 1_000_000;
-
-/// How many outcomes a tape may have.
-const MOST_OUTCOMES: usize = 1_048_576;
 
 /// The programs as far as they are expanded, and how many turns all loops have had.
 #[derive(Drop)]
@@ -65,7 +59,8 @@ impl Draft {
     /// Appends an instruction to a rank's program.
     pub(crate) fn add(&mut self, line: u32, rank: u16, i: Instr) -> Result<(), ReadError>
         requires { rank < length self.old.input.ranks }
-        ensures answers { Answers (λ _. draft_seen self.new) result (with_made line rank i (draft_seen self.old)) }
+        ensures answers { Answers (λ _. draft_seen self.new) result
+            (with_made line rank i (draft_seen self.old)) }
         ensures ranks { length self.new.input.ranks ≡ length self.old.input.ranks }
     {
         if !has_operands(self.input.qubits(rank), i) {
@@ -90,7 +85,8 @@ impl Draft {
     ) -> Result<(), ReadError>
         requires rank { scope.rank < scope.ranks }
         requires ranks { scope.ranks ≡ length self.old.input.ranks }
-        ensures answers { Answers (λ _. draft_seen self.new) result (shared line scope.rank scope.ranks which (draft_seen self.old)) }
+        ensures answers { Answers (λ _. draft_seen self.new) result
+            (shared line scope.rank scope.ranks which (draft_seen self.old)) }
         ensures ranks { length self.new.input.ranks ≡ length self.old.input.ranks }
     {
         let ranks = self.input.ranks();
@@ -107,7 +103,8 @@ impl Draft {
 
     /// Counts a turn of a loop.
     pub(crate) fn turn(&mut self, line: u32) -> Result<(), ReadError>
-        ensures answers { Answers (λ _. draft_seen self.new) result (with_turn line (draft_seen self.old)) }
+        ensures answers { Answers (λ _. draft_seen self.new) result
+            (with_turn line (draft_seen self.old)) }
         ensures ranks { length self.new.input.ranks ≡ length self.old.input.ranks }
     {
         if self.turns >= MOST_TURNS {
@@ -126,7 +123,8 @@ impl Draft {
         digits: &[u8],
     ) -> Result<(), ReadError>
         requires { rank < length self.old.input.ranks }
-        ensures answers { Answers (λ _. self.new.input) result (appended line own rank (map (λ d. d == 49) digits.now) self.old.input) }
+        ensures answers { Answers (λ _. self.new.input) result
+            (appended line own rank (map (λ d. d == 49) digits.now) self.old.input) }
         ensures ranks { OnOk result (length self.new.input.ranks ≡ length self.old.input.ranks) }
     {
         let long = if own {
@@ -146,8 +144,9 @@ impl Draft {
     /// Appends an outcome to a tape.
     fn push_outcome(&mut self, own: bool, rank: u16, outcome: bool) -> Result<(), ReadError>
         requires rank { rank < length self.old.input.ranks }
-        requires room { length (tape_of own (rank_of self.old.input rank)) < 1048576 }
-        ensures answers { Answers (λ _. self.new.input) result (Ok (with_outcomes own rank (outcome ∷ []) self.old.input)) }
+        requires room { length (tape_of own (rank_of self.old.input rank)) < MOST_OUTCOMES }
+        ensures answers { Answers (λ _. self.new.input) result
+            (Ok (with_outcomes own rank (outcome ∷ []) self.old.input)) }
         ensures total { instruction_total self.new.input ≡ instruction_total self.old.input }
     {
         let pushed = if own {

@@ -1,8 +1,13 @@
-//! The law of reading, for any text.
+//! The laws of reading, for any text.
 
-ghost use Rattle.qm_expand.specs.Laws.{OneReading};
+ghost use Rattle.qm_expand.specs.Laws.{OneReading, SomeReading};
 
 /// A text reads as one list of programs, or is refused for one reason on one line, never both.
 pub fn one_reading()
     ensures { OneReading }
+{}
+
+/// A text of at most 1,048,576 bytes reads as programs, or is refused.
+pub fn some_reading()
+    ensures { SomeReading }
 {}

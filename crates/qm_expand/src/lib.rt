@@ -12,7 +12,7 @@ mod values;
 mod walk;
 mod words;
 
-pub use laws::one_reading;
+pub use laws::{one_reading, some_reading};
 pub use reading::read;
 
 #[cfg(test)]

@@ -21,7 +21,8 @@ pub(crate) enum Made {
 
 /// What a word makes of its operands.
 pub(crate) fn make(action: Action, operands: &Operands) -> Made
-    ensures { result ≡ made action (slice_index operands.now.small.items) (slice_index operands.now.wide.items) }
+    ensures { result ≡ made action (slice_index operands.now.small.items)
+        (slice_index operands.now.wide.items) }
 {
     let q = small(operands, 0);
     let t = small(operands, 1);

@@ -1,15 +1,12 @@
 //! The operands of an instruction.
 
 ghost use Rattle.std.specs.Prelude.{◌≡◌, ◌+◌, ◌<◌, ◌≤◌, IfOk, OnOk, length, Ok, []};
-ghost use Rattle.qm_lex.specs.Lexing.{token_list};
-ghost use Rattle.qm_lex.specs.Spans.{LieIn};
 ghost use Rattle.qm_expand.specs.Values.{limit, with_value};
-ghost use Rattle.qm_expand.specs.Walk.{Answers, bytes_in, with_operand, gathered_all};
-ghost use Rattle.qm_expand.specs.Views.{scope_of, names_in, operands_seen};
+ghost use Rattle.qm_expand.specs.Walk.{Answers, with_operand, gathered_all};
+ghost use Rattle.qm_expand.specs.Views.{AreWords, words_of, scope_in, widest, operands_seen};
 
 use crate::ReadError;
-use crate::values::{Binding, Scope, limit, value, within};
-use qm_lex::Tokens;
+use crate::values::{Context, limit, value, within};
 use qm_parse::{Node, Operand};
 use std::alloc::Global;
 
@@ -25,17 +22,14 @@ pub(crate) struct Operands {
 /// The operands of these kinds at the front of these nodes.
 pub(crate) fn gather(
     alloc: Global,
-    text: &[u8],
-    tokens: &Tokens,
-    scope: Scope,
-    names: &[Binding],
+    context: &Context<'_>,
     line: u32,
     kinds: [Option<Operand>; 4],
     nodes: &[Node],
 ) -> Result<Operands, ReadError>
-    requires { LieIn text.now (token_list tokens.now) }
+    requires { AreWords context.now }
     ensures answers { Answers operands_seen result
-        (gathered_all (bytes_in text.now (token_list tokens.now)) line (scope_of scope (names_in text.now (token_list tokens.now) names.now)) nodes.now kinds) }
+        (gathered_all (words_of context.now) line (scope_in context.now) nodes.now kinds) }
     ensures used { IfOk result (λ o. o.used ≤ length nodes.now) }
 {
     let mut found = Operands {
@@ -45,9 +39,7 @@ pub(crate) fn gather(
     };
     for k in 0..4 {
         if let Some(kind) = kinds[k] {
-            take_operand(
-                alloc, text, tokens, scope, names, line, kind, nodes, &mut found,
-            )?;
+            take_operand(alloc, context, line, kind, nodes, &mut found)?;
         }
     }
     Ok(found)
@@ -56,25 +48,22 @@ pub(crate) fn gather(
 /// One more operand, behind those that were found.
 fn take_operand(
     alloc: Global,
-    text: &[u8],
-    tokens: &Tokens,
-    scope: Scope,
-    names: &[Binding],
+    context: &Context<'_>,
     line: u32,
     kind: Operand,
     nodes: &[Node],
     found: &mut Operands,
 ) -> Result<(), ReadError>
-    requires lie { LieIn text.now (token_list tokens.now) }
+    requires words { AreWords context.now }
     requires used { found.old.used ≤ length nodes.now }
     ensures answers { Answers (λ _. operands_seen found.new) result
-        (with_operand (bytes_in text.now (token_list tokens.now)) line (scope_of scope (names_in text.now (token_list tokens.now) names.now)) nodes.now kind
+        (with_operand (words_of context.now) line (scope_in context.now) nodes.now kind
         (operands_seen found.old)) }
     ensures used { OnOk result (found.new.used ≤ length nodes.now) }
 {
     let rest = &nodes[found.used..];
-    let next = value(alloc, text, tokens, scope, names, line, rest)?;
-    let number = within(line, limit(scope, kind), next.value)?;
+    let next = value(alloc, context, line, rest)?;
+    let number = within(line, limit(context.scope, kind), next.value)?;
     keep(found, kind, number)?;
     found.used += next.used;
     Ok(())
@@ -82,8 +71,11 @@ fn take_operand(
 
 /// Appends an operand to the list of its kind.
 fn keep(found: &mut Operands, kind: Operand, number: u32) -> Result<(), ReadError>
-    requires { number < limit (record { rank = 0; ranks = 65535; qubits = 255; names = [] }) kind }
-    ensures { Answers (λ _. operands_seen found.new) result (Ok (record { values = with_value kind number (operands_seen found.old).values; used = found.old.used })) }
+    requires { number < limit widest kind }
+    ensures { Answers (λ _. operands_seen found.new) result (Ok (record {
+      values = with_value kind number (operands_seen found.old).values;
+      used = found.old.used;
+    })) }
 {
     let kept = match kind {
         Operand::Slot | Operand::Bit | Operand::Truth => found.small.push(number as u8).is_ok(),

@@ -10,7 +10,7 @@ ghost use Rattle.qm_expand.specs.Views.{draft_seen};
 
 use crate::ReadError;
 use crate::draft::Draft;
-use crate::values::Scope;
+use crate::values::{Context, Scope};
 use crate::walk::{after, body, first_of, own_len, upto};
 use crate::words::{bytes, line};
 use qm_instr::Input;
@@ -27,7 +27,8 @@ pub(crate) fn expand(
 ) -> Result<Input, ReadError>
     requires lie { LieIn text.now (token_list tokens.now) }
     requires few { length nodes.now < 2 ^ 32 }
-    ensures { Answers (λ p. p) result (walked (bytes_in text.now (token_list tokens.now)) (lines_of (token_list tokens.now)) nodes.now) }
+    ensures { let tokens = token_list tokens.now in
+        Answers (λ p. p) result (walked (bytes_in text.now tokens) (lines_of tokens) nodes.now) }
 {
     if nodes.len() < 4 {
         return Err(ReadError::OutOfRange { line: 1 });
@@ -53,8 +54,9 @@ fn expand_sized(
 ) -> Result<Input, ReadError>
     requires lie { LieIn text.now (token_list tokens.now) }
     requires few { length nodes.now < 2 ^ 32 }
-    ensures { Answers (λ p. p) result
-        (sized_walk (bytes_in text.now (token_list tokens.now)) (lines_of (token_list tokens.now)) ranks qubits buffer nodes.now) }
+    ensures { let tokens = token_list tokens.now in
+        Answers (λ p. p) result
+        (sized_walk (bytes_in text.now tokens) (lines_of tokens) ranks qubits buffer nodes.now) }
 {
     if !are_sizes(ranks, qubits, buffer) {
         return Err(ReadError::OutOfRange { line: 1 });
@@ -86,8 +88,10 @@ fn expand_blocks(
     requires lie { LieIn text.now (token_list tokens.now) }
     requires few { length nodes.now < 2 ^ 32 }
     requires ranks { ranks ≡ length draft.old.input.ranks }
-    ensures answers { Answers (λ used. record { draft = draft_seen draft.new; used = used }) result
-        (blocks_walked (bytes_in text.now (token_list tokens.now)) (lines_of (token_list tokens.now)) nodes.now ranks 0 0 0 (draft_seen draft.old)) }
+    ensures answers { let tokens = token_list tokens.now in
+        Answers (λ used. record { draft = draft_seen draft.new; used = used }) result
+        (blocks_walked (bytes_in text.now tokens) (lines_of tokens) nodes.now ranks 0 0 0
+        (draft_seen draft.old)) }
     ensures used { IfOk result (λ used. used ≤ length nodes.now) }
 {
     let mut at = 0;
@@ -130,8 +134,10 @@ fn expand_block(
     requires lie { LieIn text.now (token_list tokens.now) }
     requires rank { rank < length draft.old.input.ranks }
     requires few { number + length own.now < 2 ^ 40 }
-    ensures answers { (n : ℕ) → length own.now ≤ n → Answers (λ _. draft_seen draft.new) result
-        (walk (bytes_in text.now (token_list tokens.now)) (lines_of (token_list tokens.now)) n (rank_scope draft.old.input rank) number own.now (draft_seen draft.old)) }
+    ensures answers { let tokens = token_list tokens.now in
+        (n : ℕ) → length own.now ≤ n → Answers (λ _. draft_seen draft.new) result
+        (walk (bytes_in text.now tokens) (lines_of tokens) n (rank_scope draft.old.input rank)
+        number own.now (draft_seen draft.old)) }
     ensures ranks { OnOk result (length draft.new.input.ranks ≡ length draft.old.input.ranks) }
 {
     let scope = Scope {
@@ -139,7 +145,13 @@ fn expand_block(
         ranks: draft.input.ranks(),
         qubits: draft.input.qubits(rank),
     };
-    body(alloc, text, tokens, scope, &[], number, own, draft)
+    let context = Context {
+        text,
+        tokens,
+        scope,
+        names: &[],
+    };
+    body(alloc, &context, number, own, draft)
 }
 
 /// Appends the outcomes of the tape lines.
@@ -150,8 +162,9 @@ fn append_tapes(
     draft: &mut Draft,
 ) -> Result<(), ReadError>
     requires { LieIn text.now (token_list tokens.now) }
-    ensures { Answers (λ _. draft.new.input) result
-        (tapes_walked (bytes_in text.now (token_list tokens.now)) (lines_of (token_list tokens.now)) nodes.now draft.old.input) }
+    ensures { let tokens = token_list tokens.now in
+        Answers (λ _. draft.new.input) result
+        (tapes_walked (bytes_in text.now tokens) (lines_of tokens) nodes.now draft.old.input) }
 {
     let mut rest = nodes;
     while rest.len() >= 3 {
@@ -176,8 +189,9 @@ fn append_tape(
     draft: &mut Draft,
 ) -> Result<(), ReadError>
     requires { LieIn text.now (token_list tokens.now) }
-    ensures { Answers (λ _. draft.new.input) result
-        (tape_walked (bytes_in text.now (token_list tokens.now)) (lines_of (token_list tokens.now)) first rank bits draft.old.input) }
+    ensures { let tokens = token_list tokens.now in
+        Answers (λ _. draft.new.input) result
+        (tape_walked (bytes_in text.now tokens) (lines_of tokens) first rank bits draft.old.input) }
 {
     let line = line(tokens, first.token);
     if rank.value >= u32::from(draft.input.ranks()) {

@@ -1,11 +1,9 @@
 //! The values of expressions and operands.
 
 ghost use Rattle.std.specs.Prelude.{◌≡◌, ◌≤◌, ◌<◌, [], IfOk, length, reverse};
-ghost use Rattle.qm_lex.specs.Lexing.{token_list};
-ghost use Rattle.qm_lex.specs.Spans.{LieIn};
 ghost use Rattle.qm_expand.specs.Values.{bound, ranged, result_of, computed, within, limit};
-ghost use Rattle.qm_expand.specs.Walk.{Answers, bytes_in, pushed, value_at};
-ghost use Rattle.qm_expand.specs.Views.{scope_of, names_in, value_seen, IsPushed};
+ghost use Rattle.qm_expand.specs.Walk.{Answers, pushed, value_at};
+ghost use Rattle.qm_expand.specs.Views.{AreWords, words_of, scope_in, scope_of, widest, value_seen, IsPushed};
 
 use crate::ReadError;
 use crate::words::bytes;
@@ -22,6 +20,15 @@ pub(crate) struct Scope {
     pub(crate) rank: u16,
     pub(crate) ranks: u16,
     pub(crate) qubits: u8,
+}
+
+/// What is known where an instruction stands: the text and its tokens, the rank with its sizes, and the names of the loops around.
+#[derive(Clone, Copy)]
+pub(crate) struct Context<'a> {
+    pub(crate) text: &'a [u8],
+    pub(crate) tokens: &'a Tokens,
+    pub(crate) scope: Scope,
+    pub(crate) names: &'a [Binding],
 }
 
 /// The value of a loop's name in one of its turns; the name is a token of the text.
@@ -41,16 +48,13 @@ pub(crate) struct Valued {
 /// The value of the expression at the front of these nodes; its faults have this line.
 pub(crate) fn value(
     alloc: Global,
-    text: &[u8],
-    tokens: &Tokens,
-    scope: Scope,
-    names: &[Binding],
+    context: &Context<'_>,
     line: u32,
     nodes: &[Node],
 ) -> Result<Valued, ReadError>
-    requires { LieIn text.now (token_list tokens.now) }
+    requires { AreWords context.now }
     ensures answers { Answers value_seen result
-        (value_at (bytes_in text.now (token_list tokens.now)) line (scope_of scope (names_in text.now (token_list tokens.now) names.now)) nodes.now) }
+        (value_at (words_of context.now) line (scope_in context.now) nodes.now) }
     ensures used { IfOk result (λ v. v.used ≤ length nodes.now) }
 {
     let mut stack = Vec::new(alloc);
@@ -64,7 +68,7 @@ pub(crate) fn value(
                 None => Err(ReadError::OutOfRange { line }),
             };
         }
-        let value = node_value(text, tokens, scope, names, line, node, &mut stack)?;
+        let value = node_value(context, line, node, &mut stack)?;
         let Ok(()) = stack.push(value) else {
             return Err(ReadError::Memory);
         };
@@ -74,24 +78,21 @@ pub(crate) fn value(
 
 /// The value of a node; an operator takes its two sides from the stack.
 fn node_value(
-    text: &[u8],
-    tokens: &Tokens,
-    scope: Scope,
-    names: &[Binding],
+    context: &Context<'_>,
     line: u32,
     node: Node,
     stack: &mut Vec<i64>,
 ) -> Result<i64, ReadError>
-    requires { LieIn text.now (token_list tokens.now) }
+    requires { AreWords context.now }
     ensures { IsPushed (reverse stack.new.items) result
-        (pushed (bytes_in text.now (token_list tokens.now)) line (scope_of scope (names_in text.now (token_list tokens.now) names.now))
+        (pushed (words_of context.now) line (scope_in context.now)
         node.what node.token node.value (reverse stack.old.items)) }
 {
     match node.what {
         What::Num => ranged(line, i128::from(node.value)),
-        What::Rank => ranged(line, i128::from(scope.rank)),
-        What::Size => ranged(line, i128::from(scope.ranks)),
-        What::Name => match bound(text, tokens, names, node.token as usize) {
+        What::Rank => ranged(line, i128::from(context.scope.rank)),
+        What::Size => ranged(line, i128::from(context.scope.ranks)),
+        What::Name => match bound(context, node.token as usize) {
             Some(value) => ranged(line, i128::from(value)),
             None => Err(ReadError::UnknownName { line }),
         },
@@ -106,14 +107,14 @@ fn node_value(
 }
 
 /// The value of a name: that of the innermost loop that has it.
-fn bound(text: &[u8], tokens: &Tokens, names: &[Binding], token: usize) -> Option<i64>
-    requires { LieIn text.now (token_list tokens.now) }
-    ensures { result ≡ bound (names_in text.now (token_list tokens.now) names.now) (bytes_in text.now (token_list tokens.now) token) }
+fn bound(context: &Context<'_>, token: usize) -> Option<i64>
+    requires { AreWords context.now }
+    ensures { result ≡ bound (scope_in context.now).names (words_of context.now token) }
 {
-    let name = bytes(text, tokens, token);
+    let name = bytes(context.text, context.tokens, token);
     let mut found = None;
-    for binding in names {
-        if bytes(text, tokens, binding.token) == name {
+    for binding in context.names {
+        if bytes(context.text, context.tokens, binding.token) == name {
             found = Some(binding.value);
         }
     }
@@ -170,7 +171,8 @@ pub(crate) fn within(line: u32, limit: u32, value: i64) -> Result<u32, ReadError
 
 /// What each operand of a kind is below.
 pub(crate) fn limit(scope: Scope, kind: Operand) -> u32
-    ensures { result ≡ limit (scope_of scope []) kind }
+    ensures value { result ≡ limit (scope_of scope []) kind }
+    ensures held { result ≤ limit widest kind }
 {
     match kind {
         Operand::Slot => u32::from(scope.qubits),

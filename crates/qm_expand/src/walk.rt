@@ -1,21 +1,17 @@
 //! The walk over the nodes of a source tree.
 
 ghost use Rattle.std.specs.Prelude.{◌≡◌, ◌+◌, ◌+ℤ◌, ◌<◌, ◌≤◌, ◌^◌, pos, ℕ, [], ◌∷◌, ◌++◌, length, take, drop, Ok, OnOk};
-ghost use Rattle.qm_lex.specs.Lexing.{token_list};
-ghost use Rattle.qm_lex.specs.Spans.{LieIn};
-ghost use Rattle.qm_expand.specs.Expansion.{turn_count};
-ghost use Rattle.qm_expand.specs.Reading.{lines_of};
-ghost use Rattle.qm_expand.specs.Walk.{Answers, bytes_in, own_len, walk, stepped, looped, called, gated};
-ghost use Rattle.qm_expand.specs.Views.{scope_of, names_in, draft_seen};
+ghost use Rattle.qm_expand.specs.Expansion.{inside, turn_count};
+ghost use Rattle.qm_expand.specs.Walk.{Answers, own_len, walk, stepped, looped, turned, called, gated};
+ghost use Rattle.qm_expand.specs.Views.{AreWords, words_of, word_lines, scope_in, draft_seen};
 
 use crate::ReadError;
 use crate::draft::Draft;
 use crate::made::{Made, gate_made, make, small};
 use crate::operands::gather;
-use crate::values::{Binding, Scope, Valued, value};
+use crate::values::{Binding, Context, Valued, value};
 use crate::words::{line, verb};
 use qm_instr::Instr;
-use qm_lex::Tokens;
 use qm_parse::{Node, What};
 use std::alloc::Global;
 
@@ -55,20 +51,18 @@ pub(crate) fn after(nodes: &[Node], count: usize) -> &[Node]
 #[cycle(walk)]
 pub(crate) fn body(
     alloc: Global,
-    text: &[u8],
-    tokens: &Tokens,
-    scope: Scope,
-    names: &[Binding],
+    context: &Context<'_>,
     number: usize,
     nodes: &[Node],
     draft: &mut Draft,
 ) -> Result<(), ReadError>
-    requires lie { LieIn text.now (token_list tokens.now) }
-    requires rank { scope.rank < scope.ranks }
-    requires ranks { scope.ranks ≡ length draft.old.input.ranks }
+    requires words { AreWords context.now }
+    requires rank { context.now.scope.rank < context.now.scope.ranks }
+    requires ranks { context.now.scope.ranks ≡ length draft.old.input.ranks }
     requires few { number + length nodes.now < 2 ^ 40 }
     ensures answers { (n : ℕ) → length nodes.now ≤ n → Answers (λ _. draft_seen draft.new) result
-        (walk (bytes_in text.now (token_list tokens.now)) (lines_of (token_list tokens.now)) n (scope_of scope (names_in text.now (token_list tokens.now) names.now)) number nodes.now (draft_seen draft.old)) }
+        (walk (words_of context.now) (word_lines context.now) n (scope_in context.now)
+        number nodes.now (draft_seen draft.old)) }
     ensures ranks { OnOk result (length draft.new.input.ranks ≡ length draft.old.input.ranks) }
 {
     let mut rest = nodes;
@@ -79,7 +73,7 @@ pub(crate) fn body(
         at += 1;
         let len = own_len(node, at, behind.len());
         let own = upto(behind, len);
-        step(alloc, text, tokens, scope, names, at, node, own, draft)?;
+        step(alloc, context, at, node, own, draft)?;
         at += len;
         rest = after(behind, len);
     }
@@ -90,26 +84,25 @@ pub(crate) fn body(
 #[cycle(walk)]
 fn step(
     alloc: Global,
-    text: &[u8],
-    tokens: &Tokens,
-    scope: Scope,
-    names: &[Binding],
+    context: &Context<'_>,
     number: usize,
     node: Node,
     own: &[Node],
     draft: &mut Draft,
 ) -> Result<(), ReadError>
-    requires lie { LieIn text.now (token_list tokens.now) }
-    requires rank { scope.rank < scope.ranks }
-    requires ranks { scope.ranks ≡ length draft.old.input.ranks }
+    requires words { AreWords context.now }
+    requires rank { context.now.scope.rank < context.now.scope.ranks }
+    requires ranks { context.now.scope.ranks ≡ length draft.old.input.ranks }
     requires few { number + length own.now < 2 ^ 40 }
     ensures answers { (n : ℕ) → length own.now ≤ n → Answers (λ _. draft_seen draft.new) result
-        (stepped (bytes_in text.now (token_list tokens.now)) (lines_of (token_list tokens.now)) (walk (bytes_in text.now (token_list tokens.now)) (lines_of (token_list tokens.now)) n) (scope_of scope (names_in text.now (token_list tokens.now) names.now)) number node own.now (draft_seen draft.old)) }
+        (stepped (words_of context.now) (word_lines context.now)
+        (walk (words_of context.now) (word_lines context.now) n) (scope_in context.now)
+        number node own.now (draft_seen draft.old)) }
     ensures ranks { OnOk result (length draft.new.input.ranks ≡ length draft.old.input.ranks) }
 {
     match node.what {
-        What::For => turn_loop(alloc, text, tokens, scope, names, number, node, own, draft),
-        _ => call(alloc, text, tokens, scope, names, node, own, draft),
+        What::For => turn_loop(alloc, context, number, node, own, draft),
+        _ => call(alloc, context, node, own, draft),
     }
 }
 
@@ -117,45 +110,65 @@ fn step(
 #[cycle(walk)]
 fn turn_loop(
     alloc: Global,
-    text: &[u8],
-    tokens: &Tokens,
-    scope: Scope,
-    names: &[Binding],
+    context: &Context<'_>,
     number: usize,
     node: Node,
     own: &[Node],
     draft: &mut Draft,
 ) -> Result<(), ReadError>
-    requires lie { LieIn text.now (token_list tokens.now) }
-    requires rank { scope.rank < scope.ranks }
-    requires ranks { scope.ranks ≡ length draft.old.input.ranks }
+    requires words { AreWords context.now }
+    requires rank { context.now.scope.rank < context.now.scope.ranks }
+    requires ranks { context.now.scope.ranks ≡ length draft.old.input.ranks }
     requires few { number + length own.now < 2 ^ 40 }
     ensures answers { (n : ℕ) → length own.now ≤ n → Answers (λ _. draft_seen draft.new) result
-        (looped (bytes_in text.now (token_list tokens.now)) (lines_of (token_list tokens.now)) (walk (bytes_in text.now (token_list tokens.now)) (lines_of (token_list tokens.now)) n) (scope_of scope (names_in text.now (token_list tokens.now) names.now)) number node own.now (draft_seen draft.old)) }
+        (looped (words_of context.now) (word_lines context.now)
+        (walk (words_of context.now) (word_lines context.now) n) (scope_in context.now)
+        number node own.now (draft_seen draft.old)) }
     ensures ranks { OnOk result (length draft.new.input.ranks ≡ length draft.old.input.ranks) }
 {
-    let line = line(tokens, node.token);
-    let first = value(alloc, text, tokens, scope, names, line, own)?;
+    let line = line(context.tokens, node.token);
+    let first = value(alloc, context, line, own)?;
     let rest = after(own, first.used);
-    let end = value(alloc, text, tokens, scope, names, line, rest)?;
+    let end = value(alloc, context, line, rest)?;
     let inner = after(rest, end.used);
     let start = number + first.used + end.used;
     for k in 0..turn_count(first, end) {
-        draft.turn(line)?;
         let name = turn_name(node, first, end, k);
-        let inside = with_name(alloc, names, name)?;
-        body(
-            alloc,
-            text,
-            tokens,
-            scope,
-            inside.as_slice(),
-            start,
-            inner,
-            draft,
-        )?;
+        turn(alloc, context, line, name, start, inner, draft)?;
     }
     Ok(())
+}
+
+/// Expands the body of a loop for one turn, which is counted first.
+#[cycle(walk)]
+fn turn(
+    alloc: Global,
+    context: &Context<'_>,
+    line: u32,
+    name: Binding,
+    number: usize,
+    inner: &[Node],
+    draft: &mut Draft,
+) -> Result<(), ReadError>
+    requires words { AreWords context.now }
+    requires rank { context.now.scope.rank < context.now.scope.ranks }
+    requires ranks { context.now.scope.ranks ≡ length draft.old.input.ranks }
+    requires few { number + length inner.now < 2 ^ 40 }
+    ensures answers { (n : ℕ) → length inner.now ≤ n → Answers (λ _. draft_seen draft.new) result
+        (turned (walk (words_of context.now) (word_lines context.now) n) line
+        (inside (scope_in context.now) (words_of context.now name.token) name.value)
+        number inner.now (draft_seen draft.old)) }
+    ensures ranks { OnOk result (length draft.new.input.ranks ≡ length draft.old.input.ranks) }
+{
+    draft.turn(line)?;
+    let names = with_name(alloc, context.names, name)?;
+    let inside = Context {
+        text: context.text,
+        tokens: context.tokens,
+        scope: context.scope,
+        names: names.as_slice(),
+    };
+    body(alloc, &inside, number, inner, draft)
 }
 
 /// How many turns a loop has between its bounds.
@@ -213,33 +226,31 @@ fn push_name(names: &mut Vec<Binding>, name: Binding) -> Result<(), ReadError>
 /// Expands an instruction or a collective.
 fn call(
     alloc: Global,
-    text: &[u8],
-    tokens: &Tokens,
-    scope: Scope,
-    names: &[Binding],
+    context: &Context<'_>,
     node: Node,
     own: &[Node],
     draft: &mut Draft,
 ) -> Result<(), ReadError>
-    requires lie { LieIn text.now (token_list tokens.now) }
-    requires rank { scope.rank < scope.ranks }
-    requires ranks { scope.ranks ≡ length draft.old.input.ranks }
+    requires words { AreWords context.now }
+    requires rank { context.now.scope.rank < context.now.scope.ranks }
+    requires ranks { context.now.scope.ranks ≡ length draft.old.input.ranks }
     ensures answers { Answers (λ _. draft_seen draft.new) result
-        (called (bytes_in text.now (token_list tokens.now)) (lines_of (token_list tokens.now)) (scope_of scope (names_in text.now (token_list tokens.now) names.now)) node own.now (draft_seen draft.old)) }
+        (called (words_of context.now) (word_lines context.now) (scope_in context.now)
+        node own.now (draft_seen draft.old)) }
     ensures ranks { OnOk result (length draft.new.input.ranks ≡ length draft.old.input.ranks) }
 {
-    let Some(verb) = verb(text, tokens, node.token) else {
+    let Some(verb) = verb(context.text, context.tokens, node.token) else {
         return Ok(());
     };
-    let line = line(tokens, node.token);
-    let found = gather(alloc, text, tokens, scope, names, line, verb.operands, own)?;
+    let line = line(context.tokens, node.token);
+    let found = gather(alloc, context, line, verb.operands, own)?;
     match make(verb.action, &found) {
-        Made::Core(i) => draft.add(line, scope.rank, i),
-        Made::Shared(which) => draft.share(line, scope, which),
+        Made::Core(i) => draft.add(line, context.scope.rank, i),
+        Made::Shared(which) => draft.share(line, context.scope, which),
         Made::Nothing => {
             let bit = small(&found, 0);
             let rest = &own[found.used..];
-            call_gate(alloc, text, tokens, scope, names, line, bit, rest, draft)
+            call_gate(alloc, context, line, bit, rest, draft)
         }
     }
 }
@@ -247,40 +258,29 @@ fn call(
 /// Expands the gate under a bit, at the front of these nodes.
 fn call_gate(
     alloc: Global,
-    text: &[u8],
-    tokens: &Tokens,
-    scope: Scope,
-    names: &[Binding],
+    context: &Context<'_>,
     line: u32,
     bit: u8,
     nodes: &[Node],
     draft: &mut Draft,
 ) -> Result<(), ReadError>
-    requires lie { LieIn text.now (token_list tokens.now) }
-    requires rank { scope.rank < scope.ranks }
-    requires ranks { scope.ranks ≡ length draft.old.input.ranks }
+    requires words { AreWords context.now }
+    requires rank { context.now.scope.rank < context.now.scope.ranks }
+    requires ranks { context.now.scope.ranks ≡ length draft.old.input.ranks }
     ensures answers { Answers (λ _. draft_seen draft.new) result
-        (gated (bytes_in text.now (token_list tokens.now)) line (scope_of scope (names_in text.now (token_list tokens.now) names.now)) bit nodes.now (draft_seen draft.old)) }
+        (gated (words_of context.now) line (scope_in context.now)
+        bit nodes.now (draft_seen draft.old)) }
     ensures ranks { OnOk result (length draft.new.input.ranks ≡ length draft.old.input.ranks) }
 {
     if nodes.is_empty() {
         return Ok(());
     }
-    let Some(verb) = verb(text, tokens, nodes[0].token) else {
+    let Some(verb) = verb(context.text, context.tokens, nodes[0].token) else {
         return Ok(());
     };
-    let found = gather(
-        alloc,
-        text,
-        tokens,
-        scope,
-        names,
-        line,
-        verb.operands,
-        &nodes[1..],
-    )?;
+    let found = gather(alloc, context, line, verb.operands, &nodes[1..])?;
     match gate_made(verb.action, &found) {
         None => Ok(()),
-        Some(g) => draft.add(line, scope.rank, Instr::When { b: bit, g }),
+        Some(g) => draft.add(line, context.scope.rank, Instr::When { b: bit, g }),
     }
 }

@@ -13,7 +13,8 @@ use Rattle.qm_parse.specs.declared.words.Verb.{Verb}
 use Rattle.qm_parse.specs.Trees.{Expr, Sum, NoAdd, Product, NoMul, Num, Call, Body, Nothing, Then, Stmt, Do, DoUnder, For, ForEach, TapeLine, Program}
 use Rattle.qm_gen.specs.declared.GenKind.{GenKind}
 use Rattle.qm_gen.specs.declared.GenKind.TheVariants.{Ring, Ghz, Parity}
-use Rattle.qm_gen.specs.Seeds.{Words, skipped, outcomes}
+use Rattle.qm_seed.specs.Seeds.{Words}
+use Rattle.qm_gen.specs.Outcomes.{skipped, outcomes}
 use Rattle.qm_gen.specs.Sizes.{ranks_of}
 use Rattle.qm_gen.specs.Made.{Tape, tapes, children, numbers}
 

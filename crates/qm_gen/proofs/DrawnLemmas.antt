@@ -1,28 +1,25 @@
 -- Outcomes and tapes, as they are drawn one after another
 use Rattle.std.proofs.Common.{◌≡◌, ◌≢◌, ℕ, zero, suc, Bool, List, [], ◌∷◌, ◌++◌, refl, ap, ◌∙◌, sym, subst, append_assoc}
 use Rattle.std.specs.Prelude.{if◌then◌else◌, codes, decimal}
-use Rattle.rand_pcg.specs.Lcg.{Lcg}
-use Rattle.rand_pcg.specs.Pcg.{pcg32}
-use Rattle.qm_gen.specs.Seeds.{Words, words_of, skipped, outcome_of, outcomes, outcome_digit, outcome_digits}
+use Rattle.qm_seed.specs.Seeds.{Words, words_after}
+use Rattle.qm_gen.specs.Outcomes.{skipped, outcome_of, outcomes, outcome_digit, outcome_digits}
 use Rattle.qm_gen.specs.Made.{Lines, Tape, lines_text, tape_lines, drawn_lines, words_left}
 use Rattle.qm_gen.proofs.LineLemmas.{lines_text-append}
 
 -- a text, the digits of the outcomes that are still to be drawn, and the words behind them, are these
-pub record Draws (text : List ℕ) (generator : Lcg) (n : ℕ) (whole : List ℕ) (rest : Words) : Type 0 where
-  pub digits : text ++ outcome_digits (outcomes n (words_of generator)) ≡ whole
-  pub drawn : skipped n (words_of generator) ≡ rest
+pub record Draws (text : List ℕ) (words : Words) (n : ℕ) (whole : List ℕ) (rest : Words) : Type 0 where
+  pub digits : text ++ outcome_digits (outcomes n words) ≡ whole
+  pub drawn : skipped n words ≡ rest
 
-pub draws-next : (text new : List ℕ) (g h : Lcg) (word m n : ℕ) (whole : List ℕ) (rest : Words) → Draws text g n whole rest → n ≡ suc m → ◌≡◌ {A = ℕ × Lcg} (word, h) (pcg32 g) → new ≡ text ++ outcome_digit (outcome_of word) ∷ [] → Draws new h m whole rest
-draws-next text new g h word m n whole rest d one gives is =
-    let was = subst (λ k. Draws text g k whole rest) one d in
-    let first : word ≡ (pcg32 g).0 = ap (λ (x : ℕ × Lcg). x.0) gives in
-    let after : (pcg32 g).1 ≡ h = sym (ap (λ (x : ℕ × Lcg). x.1) gives) in
-    let more : List ℕ = outcome_digits (outcomes m (words_of (pcg32 g).1)) in
-    let joined : (text ++ outcome_digit (outcome_of (pcg32 g).0) ∷ []) ++ more ≡ whole = append_assoc text (outcome_digit (outcome_of (pcg32 g).0) ∷ []) more ∙ was.digits in
-    let there : new ++ more ≡ whole = ap (λ t. t ++ more) (is ∙ ap (λ w. text ++ outcome_digit (outcome_of w) ∷ []) first) ∙ joined in
+pub draws-next : (text new : List ℕ) (v w : Words) (word m n : ℕ) (whole : List ℕ) (rest : Words) → Draws text v n whole rest → n ≡ suc m → word ≡ v 0 → w ≡ words_after v → new ≡ text ++ outcome_digit (outcome_of word) ∷ [] → Draws new w m whole rest
+draws-next text new v w word m n whole rest d one first after is =
+    let was = subst (λ k. Draws text v k whole rest) one d in
+    let more : List ℕ = outcome_digits (outcomes m (words_after v)) in
+    let joined : (text ++ outcome_digit (outcome_of (v 0)) ∷ []) ++ more ≡ whole = append_assoc text (outcome_digit (outcome_of (v 0)) ∷ []) more ∙ was.digits in
+    let there : new ++ more ≡ whole = ap (λ t. t ++ more) (is ∙ ap (λ k. text ++ outcome_digit (outcome_of k) ∷ []) first) ∙ joined in
     record {
-      digits = subst (λ (l : Lcg). new ++ outcome_digits (outcomes m (words_of l)) ≡ whole) after there;
-      drawn = subst (λ (l : Lcg). skipped m (words_of l) ≡ rest) after was.drawn;
+      digits = subst (λ (x : Words). new ++ outcome_digits (outcomes m x) ≡ whole) (sym after) there;
+      drawn = subst (λ (x : Words). skipped m x ≡ rest) (sym after) was.drawn;
     }
 
 -- a text, the lines of the tapes that are still to be drawn, and the words behind them, are these

@@ -15,4 +15,4 @@ mod MadeMay
 mod MadeTapes
 mod MadeRuns
 mod MadeLength
-mod MadeReads
+pub mod MadeReads

@@ -9,7 +9,8 @@ use Rattle.std.proofs.lemmas.Fmt.{length-decimal-le}
 use Rattle.qm_parse.specs.Words.{bits_word}
 use Rattle.qm_gen.specs.declared.GenKind.{GenKind}
 use Rattle.qm_gen.specs.declared.GenKind.TheVariants.{Ring, Ghz, Parity}
-use Rattle.qm_gen.specs.Seeds.{Words, skipped, outcomes}
+use Rattle.qm_seed.specs.Seeds.{Words}
+use Rattle.qm_gen.specs.Outcomes.{skipped, outcomes}
 use Rattle.qm_gen.specs.Sizes.{IsSize}
 use Rattle.qm_gen.specs.Made.{Lines, Tape, lines_text, numbered, tape_lines, tapes, drawn_lines, program_lines, made_text}
 use Rattle.qm_gen.proofs.LineLemmas.{lines_text-append}

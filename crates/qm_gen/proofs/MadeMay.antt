@@ -17,7 +17,8 @@ use Rattle.qm_parse.specs.Spelling.{each_signs, tapes_signs, program_signs}
 use Rattle.qm_parse.specs.Faults.{open_behind, MayOpen, IsShallow}
 use Rattle.qm_gen.specs.declared.GenKind.{GenKind}
 use Rattle.qm_gen.specs.declared.GenKind.TheVariants.{Ring, Ghz, Parity}
-use Rattle.qm_gen.specs.Seeds.{Words, skipped, outcomes}
+use Rattle.qm_seed.specs.Seeds.{Words}
+use Rattle.qm_gen.specs.Outcomes.{skipped, outcomes}
 use Rattle.qm_gen.specs.Sizes.{ranks_of, IsSize}
 use Rattle.qm_gen.specs.Made.{Tape, tapes, tapes_of, numbers}
 use Rattle.qm_gen.proofs.Deeds.{Deed, Alloc, Gate, Measure, WhenX, MoveTo, MoveFrom, CopyTo, CopyFrom, ReachTo, ReachFrom, stmt_of, num, call, peer_verb, deeds_then, loop_of, Part, part_body, part_of, parts, made_tree, drawn_tapes, tape_lines_in}

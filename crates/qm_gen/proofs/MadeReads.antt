@@ -14,7 +14,7 @@ use Rattle.qm_expand.specs.Drafts.{Draft, draft}
 use Rattle.qm_expand.specs.Expansion.{Lines, each_expanded, with_tapes, expanded}
 use Rattle.qm_expand.specs.Reading.{lines_of}
 use Rattle.qm_gen.specs.declared.GenKind.{GenKind}
-use Rattle.qm_gen.specs.Seeds.{Words}
+use Rattle.qm_seed.specs.Seeds.{Words}
 use Rattle.qm_gen.specs.Sizes.{IsSize}
 use Rattle.qm_gen.specs.Made.{tapes, made_text}
 use Rattle.qm_gen.specs.Laws.{IsReadyText}

@@ -12,7 +12,7 @@ use Rattle.qm_instr.specs.Programs.{RankProgram, Programs, idle_rank, rank_of}
 use Rattle.qm_check.specs.Checks.{capacity_of}
 use Rattle.qm_gen.specs.declared.GenKind.{GenKind}
 use Rattle.qm_gen.specs.declared.GenKind.TheVariants.{Ring, Ghz, Parity}
-use Rattle.qm_gen.specs.Seeds.{Words}
+use Rattle.qm_seed.specs.Seeds.{Words}
 use Rattle.qm_gen.specs.Sizes.{IsSize}
 use Rattle.qm_gen.specs.Made.{tapes}
 use Rattle.qm_gen.proofs.Deeds.{Deed, peer_of, instr_of, Part, parts, ring_part, parity_part}

@@ -8,7 +8,8 @@ use Rattle.qm_parse.specs.Trees.{TapeLine}
 use Rattle.qm_parse.specs.Spelling.{each_signs, tape_signs, tapes_signs, program_signs}
 use Rattle.qm_gen.specs.declared.GenKind.{GenKind}
 use Rattle.qm_gen.specs.declared.GenKind.TheVariants.{Ring, Ghz, Parity}
-use Rattle.qm_gen.specs.Seeds.{Words, skipped, outcomes}
+use Rattle.qm_seed.specs.Seeds.{Words}
+use Rattle.qm_gen.specs.Outcomes.{skipped, outcomes}
 use Rattle.qm_gen.specs.Sizes.{ranks_of, IsSize}
 use Rattle.qm_gen.specs.Made.{Tape, numbers, tape_lines, tapes_of, tapes, drawn_lines, program_lines, made_text}
 use Rattle.qm_gen.proofs.TextSigns.{joined, lines_signs, lines_signs-append, HasTokens, lines-tokens}

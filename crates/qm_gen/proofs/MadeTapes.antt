@@ -7,7 +7,8 @@ use Rattle.qm_instr.specs.Programs.{RankProgram, Programs, idle_rank, rank_of, w
 use Rattle.qm_parse.specs.Trees.{TapeLine}
 use Rattle.qm_expand.specs.Drafts.{with_outcomes}
 use Rattle.qm_expand.specs.Expansion.{with_tapes}
-use Rattle.qm_gen.specs.Seeds.{Words, words_after, skipped, outcomes}
+use Rattle.qm_seed.specs.Seeds.{Words, words_after}
+use Rattle.qm_gen.specs.Outcomes.{skipped, outcomes}
 use Rattle.qm_gen.specs.Made.{Tape}
 use Rattle.qm_gen.proofs.Deeds.{tape_lines_in, drawn_tapes, Part}
 use Rattle.qm_gen.proofs.Expanded.{program_of, repeated-none}

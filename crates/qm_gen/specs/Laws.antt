@@ -5,7 +5,7 @@ use Rattle.qm_check.specs.Checks.{IsReady}
 use Rattle.qm_lex.specs.declared.lexer.TheConstants.{MOST_BYTES}
 use Rattle.qm_expand.specs.Reading.{Reads}
 use Rattle.qm_gen.specs.declared.GenKind.{GenKind}
-use Rattle.qm_gen.specs.Seeds.{seed_words}
+use Rattle.qm_seed.specs.Seeds.{seed_words}
 use Rattle.qm_gen.specs.Sizes.{IsSize}
 use Rattle.qm_gen.specs.Made.{made_text}
 

@@ -1,4 +1,4 @@
-pub mod Seeds
+pub mod Outcomes
 pub mod Sizes
 pub mod Made
 pub mod Laws

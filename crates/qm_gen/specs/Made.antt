@@ -3,7 +3,8 @@ use Rattle.std.specs.Prelude.{◌≡◌, ℕ, zero, suc, ◌+◌, ◌-◌, ◌*�
 use Rattle.qm_parse.specs.Words.{bits_word}
 use Rattle.qm_gen.specs.declared.GenKind.{GenKind}
 use Rattle.qm_gen.specs.declared.GenKind.TheVariants.{Ring, Ghz, Parity}
-use Rattle.qm_gen.specs.Seeds.{Words, skipped, outcomes}
+use Rattle.qm_seed.specs.Seeds.{Words}
+use Rattle.qm_gen.specs.Outcomes.{skipped, outcomes}
 use Rattle.qm_gen.specs.Sizes.{ranks_of}
 
 -- ---- lines

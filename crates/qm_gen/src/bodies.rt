@@ -60,7 +60,8 @@ fn push_ghz(text: &mut Vec<u8>, size: u32, rank: u32) -> Result<(), AllocError>
 /// Appends the copies of a rank of a GHZ state to those below it.
 fn push_copies(text: &mut Vec<u8>, size: u32, rank: u32) -> Result<(), AllocError>
     requires { rank < MOST_GHZ }
-    ensures { OnOk result (Appends text.old.items text.new.items (copy_lines (children size rank))) }
+    ensures { OnOk result
+        (Appends text.old.items text.new.items (copy_lines (children size rank))) }
 {
     if 2 * rank + 1 < size {
         push_numbered(text, b"copyto 0 ", 2 * rank + 1, b" 1")?;

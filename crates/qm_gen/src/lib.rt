@@ -10,13 +10,13 @@ mod tapes;
 mod tests;
 
 ghost use Rattle.std.specs.Prelude.{◌≡◌, IfOk};
-ghost use Rattle.qm_gen.specs.Seeds.{seed_words};
+ghost use Rattle.qm_seed.specs.Seeds.{seed_words};
 ghost use Rattle.qm_gen.specs.Sizes.{IsSize};
 ghost use Rattle.qm_gen.specs.Made.{made_text};
 ghost use Rattle.qm_gen.specs.Laws.{IsReadyText};
 
 pub use laws::made_law;
-use rand_pcg::Lcg64Xsh32;
+use qm_seed::SeedWords;
 use std::alloc::{AllocError, Global};
 
 /// The least size of a ring.
@@ -59,7 +59,7 @@ impl GenKind {
     }
 }
 
-/// The text of the made program of this kind and size, whose tapes have the lowest bits of the words of `Lcg64Xsh32::new(number, 1)`,
+/// The text of the made program of this kind and size, whose tapes have the lowest bits of the words that the number gives as a seed,
 /// drawn in the order in which they stand in the text. It is read without a fault, and its programs are ready. `AllocError` comes from
 /// the allocator alone.
 ///
@@ -70,9 +70,9 @@ pub fn make(alloc: Global, kind: GenKind, size: u32, number: u64) -> Result<Vec<
     ensures ready { IfOk result (λ text. IsReadyText text.items) }
 {
     let mut text = Vec::new(alloc);
-    let mut generator = Lcg64Xsh32::new(number, 1);
+    let mut words = SeedWords::start(number);
     program::push_program(&mut text, kind, size)?;
-    tapes::push_tapes(&mut text, kind, size, true, &mut generator)?;
-    tapes::push_tapes(&mut text, kind, size, false, &mut generator)?;
+    tapes::push_tapes(&mut text, kind, size, true, &mut words)?;
+    tapes::push_tapes(&mut text, kind, size, false, &mut words)?;
     Ok(text)
 }

@@ -1,7 +1,8 @@
-//! The tapes of a made program, drawn from a generator.
+//! The tapes of a made program, drawn from the words of a seed.
 
 ghost use Rattle.std.specs.Prelude.{◌≡◌, ◌<◌, ◌++◌, OnOk};
-ghost use Rattle.qm_gen.specs.Seeds.{words_of, skipped, outcome_of, outcomes, outcome_digit, outcome_digits};
+ghost use Rattle.qm_seed.specs.Seeds.{words_of};
+ghost use Rattle.qm_gen.specs.Outcomes.{skipped, outcome_of, outcomes, outcome_digit, outcome_digits};
 ghost use Rattle.qm_gen.specs.Sizes.{IsSize, ranks_of};
 ghost use Rattle.qm_gen.specs.Made.{Appends, tape_len, tape_word, tape_lines, rank_tapes, drawn_lines, words_left};
 
@@ -9,8 +10,7 @@ use crate::GenKind;
 use crate::bodies::child_count;
 use crate::lines::push_number;
 use crate::program::rank_count;
-use rand_core::utils::NextWord;
-use rand_pcg::Lcg64Xsh32;
+use qm_seed::SeedWords;
 use std::alloc::AllocError;
 
 /// How many outcomes a rank's own tape has, or its protocol tape.
@@ -36,17 +36,17 @@ pub(crate) fn push_tapes(
     kind: GenKind,
     size: u32,
     own: bool,
-    generator: &mut Lcg64Xsh32,
+    words: &mut SeedWords,
 ) -> Result<(), AllocError>
     requires { IsSize kind size }
     ensures lines { OnOk result (Appends text.old.items text.new.items
-        (drawn_lines (rank_tapes kind size own) (words_of generator.old))) }
-    ensures drawn { OnOk result (words_of generator.new
-        ≡ words_left (rank_tapes kind size own) (words_of generator.old)) }
+        (drawn_lines (rank_tapes kind size own) (words_of words.old))) }
+    ensures drawn { OnOk result (words_of words.new
+        ≡ words_left (rank_tapes kind size own) (words_of words.old)) }
 {
     for rank in 0..rank_count(kind, size) {
         let len = tape_len(kind, size, own, rank);
-        push_tape(text, own, rank, len, generator)?;
+        push_tape(text, own, rank, len, words)?;
     }
     Ok(())
 }
@@ -57,11 +57,11 @@ fn push_tape(
     own: bool,
     rank: u32,
     len: u32,
-    generator: &mut Lcg64Xsh32,
+    words: &mut SeedWords,
 ) -> Result<(), AllocError>
     ensures lines { OnOk result (Appends text.old.items text.new.items
-        (tape_lines own rank (outcomes len (words_of generator.old)))) }
-    ensures drawn { OnOk result (words_of generator.new ≡ skipped len (words_of generator.old)) }
+        (tape_lines own rank (outcomes len (words_of words.old)))) }
+    ensures drawn { OnOk result (words_of words.new ≡ skipped len (words_of words.old)) }
 {
     if len == 0 {
         return Ok(());
@@ -69,7 +69,7 @@ fn push_tape(
     push_tape_word(text, own)?;
     push_number(text, rank)?;
     text.extend_from_slice(b" b")?;
-    push_outcomes(text, len, generator)?;
+    push_outcomes(text, len, words)?;
     text.push(b'\n')?;
     Ok(())
 }
@@ -93,14 +93,14 @@ fn digit_of(word: u32) -> u8
     if word % 2 == 1 { b'1' } else { b'0' }
 }
 
-/// Appends so many outcomes, each the lowest bit of the generator's next word.
-fn push_outcomes(text: &mut Vec<u8>, len: u32, generator: &mut Lcg64Xsh32) -> Result<(), AllocError>
+/// Appends so many outcomes, each the lowest bit of the next word.
+fn push_outcomes(text: &mut Vec<u8>, len: u32, words: &mut SeedWords) -> Result<(), AllocError>
     ensures digits { OnOk result (text.new.items
-        ≡ text.old.items ++ outcome_digits (outcomes len (words_of generator.old))) }
-    ensures drawn { OnOk result (words_of generator.new ≡ skipped len (words_of generator.old)) }
+        ≡ text.old.items ++ outcome_digits (outcomes len (words_of words.old))) }
+    ensures drawn { OnOk result (words_of words.new ≡ skipped len (words_of words.old)) }
 {
     for _ in 0..len {
-        text.push(digit_of(generator.next_word()))?;
+        text.push(digit_of(words.draw()))?;
     }
     Ok(())
 }

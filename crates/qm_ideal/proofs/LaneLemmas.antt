@@ -1,5 +1,5 @@
 -- The lanes as a function, where one queue changes
-use Rattle.std.proofs.Common.{◌≡◌, ◌≢◌, ◌∙◌, ℕ, Bool, true, false, List, [], ◌∷◌, ◌++◌, IsSome, Option, Some, None, refl, sym, ap, subst, drop, length, slice_set, ◌-◌, ◌<◌, arith}
+use Rattle.std.proofs.Common.{◌≡◌, ◌≢◌, ◌∙◌, ℕ, true, false, List, [], ◌∷◌, ◌++◌, IsSome, Some, None, refl, sym, ap, subst, drop, length, slice_set, ◌-◌, ◌<◌, arith}
 use Rattle.std.proofs.Math.Path.{fun_ext}
 use Rattle.std.specs.BTreeMap.{BTreeMap, get, is_at, Updates, WritesThrough}
 use Rattle.std.specs.declared.alloc.Global.{Global}

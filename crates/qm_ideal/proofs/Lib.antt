@@ -1,6 +1,5 @@
 pub mod LaneLemmas
 pub mod TableLemmas
-pub mod LaneTests
 pub mod ActLemmas
 pub mod OneRunLemmas
 pub mod SmallActs

@@ -1,5 +1,5 @@
 -- The lines of an instruction, as the code keeps them
-use Rattle.std.proofs.Common.{◌≡◌, ◌∙◌, ℕ, zero, suc, ◌<◌, ◌≤◌, List, [], ◌∷◌, map, take, replicate, slice_get, Option, Some, None, refl, sym, ap, arith}
+use Rattle.std.proofs.Common.{◌≡◌, ◌∙◌, ℕ, zero, suc, ◌<◌, ◌≤◌, List, [], ◌∷◌, map, take, replicate, slice_get, Some, None, refl, sym, ap, arith}
 use Rattle.std.proofs.Math.Path.{fun_ext}
 use Rattle.qm_instr.specs.declared.Lane.{Lane}
 use Rattle.qm_ideal.specs.declared.lines.Line.{Line}

@@ -1,67 +1,32 @@
 -- With buffers of one, where ranks stand and which parcels have bits decide who is enabled
-use Rattle.std.proofs.Common.{◌≡◌, ◌≢◌, ◌∙◌, ℕ, zero, suc, ◌+◌, ◌<◌, ◌≤◌, nat_eq, nat_lt, Bool, true, false, ◌&&◌, ◌||◌, cond, List, [], ◌∷◌, ◌++◌, length, map, drop, fold, Option, Some, None, is_some, slice_get, slice_index_or, refl, sym, ap, ap₂, arith}
+use Rattle.std.proofs.Common.{◌≡◌, ◌∙◌, ℕ, zero, suc, ◌+◌, nat_eq, nat_lt, Bool, true, false, ◌&&◌, ◌||◌, cond, List, [], ◌∷◌, ◌++◌, length, map, drop, fold, Option, Some, None, is_some, slice_get, slice_index_or, refl, sym, ap, ap₂, arith}
 use Rattle.std.proofs.Math.Path.{fun_ext}
 use Rattle.std.proofs.lemmas.Bool.{le-ltb}
 use Rattle.std.proofs.lemmas.List.{length-map, map-append, drop-map}
 use Rattle.qm_denot.specs.Parcels.{filled}
 use Rattle.qm_instr.specs.declared.Instr.{Instr}
-use Rattle.qm_instr.specs.declared.Instr.TheVariants as instr
-use Rattle.qm_instr.specs.declared.Kind.TheVariants as kind
 use Rattle.qm_instr.specs.declared.Lane.{Lane}
-use Rattle.qm_instr.specs.Lanes.{lane}
-use Rattle.qm_instr.specs.Programs.{Programs, RankProgram, idle_rank, rank_of}
+use Rattle.qm_instr.specs.Programs.{Programs, RankProgram, rank_of}
 use Rattle.qm_proto.specs.declared.Act.{Act}
 use Rattle.qm_proto.specs.declared.Act.TheVariants.{Fresh, Twin, Apply, SlotOut, NearOut, FarOut, Settle, Posts, Fills, Receives, OwnUsed, ProtocolUsed, FirstKept, BitSet}
-use Rattle.qm_proto.specs.declared.Few.{Few}
 use Rattle.qm_denot.specs.declared.Parcel.{Parcel}
 use Rattle.qm_proto.specs.declared.Row.{Row}
 use Rattle.qm_proto.specs.declared.Rule.{Rule}
 use Rattle.qm_proto.specs.declared.Rule.TheVariants.{Always, PairRoom, Engaged, Filled}
-use Rattle.qm_denot.specs.declared.Letter.{Letter}
 use Rattle.qm_proto.specs.Model.Acts.{list_of, done, all_done}
-use Rattle.qm_proto.specs.Model.Rows.{rows, letter, few_if, current, instr_at}
+use Rattle.qm_proto.specs.Model.Rows.{rows, current, instr_at}
 use Rattle.qm_proto.specs.Model.Runs.{row_in, row_next, row_holds, enabled, has_event, holds, halves, is_wanted, receives_on, moved_on, events_at, row_done, next_tables}
 use Rattle.qm_proto.specs.Model.Schedules.{with_buffer_of_one, with_buffers_of_one}
-use Rattle.qm_proto.specs.Model.State.{Part, Tables, with_at, with_lane, front, no_parcel}
-use Rattle.qm_proto.proofs.Changes.{by_lane, by_test, by_number, with_at-here, with_at-elsewhere}
+use Rattle.qm_proto.specs.Model.State.{Part, Tables, with_at, with_lane, no_parcel}
+use Rattle.qm_proto.proofs.Changes.{by_lane, by_number, with_at-here, with_at-elsewhere}
 use Rattle.qm_proto.proofs.Positions.{all_at_kept, all_stage_kept}
 use Rattle.qm_ideal.specs.Lanes.{last_set}
-use Rattle.qm_ideal.specs.Meetings.{Move, Puts, Tells, Gets, moves, Shape, shape, shape_of, still, shapes, Stand, has_bits, stand_of, lanes_after, Reader, shape_in, shape_next, is_wanted_at, rule_holds, shape_holds, may_go, gone, go}
+use Rattle.qm_runs.specs.Stuck.Shapes.{moves, Shape, shape_of}
+use Rattle.qm_ideal.specs.Meetings.{Stand, has_bits, stand_of, lanes_after, shape_in, shape_next, is_wanted_at, rule_holds, shape_holds, may_go, gone, go}
+use Rattle.qm_runs.proofs.Stuck.Rendezvous.{one_rank, small}
+use Rattle.qm_runs.proofs.Stuck.Shapes.{rows_shapes}
 
 -- ---- the lines of an instruction have its shapes
-none_moves : (b : Bool) (l : Letter) → moves (list_of (few_if b (letter l))) ≡ []
-none_moves true l = refl
-none_moves false l = refl
-
-rows_shapes : (p : Programs) (t : Tables) (r : ℕ) (i : Instr) → map shape_of (rows p t r i) ≡ shapes r i
-rows_shapes p t r (instr.When b g) = ap (λ ms. shape Always ms ∷ []) (none_moves _ _)
-rows_shapes p t r (instr.CopyFrom q from tag) =
-    let a = lane from r kind.Copy tag in ap (λ ms. shape (Filled a) (Gets a ∷ []) ∷ shape Always ms ∷ []) (none_moves _ _)
-rows_shapes p t r (instr.UndoFrom q from tag) =
-    let a = lane from r kind.Undo tag in ap (λ ms. shape (Filled a) (Gets a ∷ []) ∷ shape Always ms ∷ []) (none_moves _ _)
-rows_shapes p t r (instr.MoveFrom q from tag) =
-    let a = lane from r kind.Move tag in
-    ap₂ (λ ms ns. shape (Filled a) (Gets a ∷ []) ∷ shape Always ms ∷ shape Always ns ∷ []) (none_moves _ _) (none_moves _ _)
-rows_shapes p t r (instr.ReachTo q to tag) =
-    let a = lane r to kind.Reach tag in
-    let back = lane to r kind.Back tag in
-    ap (λ ms. shape (PairRoom a) (Puts a false ∷ []) ∷ still ∷ shape Always (Tells a ∷ []) ∷ shape (Filled back) (Gets back ∷ []) ∷ shape Always ms ∷ []) (none_moves _ _)
-rows_shapes p t r (instr.ReachFrom q from tag) =
-    let a = lane from r kind.Reach tag in
-    let back = lane r from kind.Back tag in
-    ap (λ ms. shape (Filled a) (Gets a ∷ []) ∷ shape Always ms ∷ still ∷ still ∷ shape Always (Puts back true ∷ []) ∷ []) (none_moves _ _)
-rows_shapes p t r (instr.Alloc q) = refl
-rows_shapes p t r (instr.Do g) = refl
-rows_shapes p t r (instr.Free q) = refl
-rows_shapes p t r (instr.Measure q b) = refl
-rows_shapes p t r (instr.Set b v) = refl
-rows_shapes p t r (instr.Xor b c) = refl
-rows_shapes p t r (instr.SendBit b to tag) = refl
-rows_shapes p t r (instr.RecvBit b from tag) = refl
-rows_shapes p t r (instr.CopyTo q to tag) = refl
-rows_shapes p t r (instr.UndoTo q to tag) = refl
-rows_shapes p t r (instr.MoveTo q to tag) = refl
-
 -- the shape of a row, where there is one
 shape_in_row : Option Row → Option Shape
 shape_in_row None = None
@@ -212,16 +177,8 @@ next_same p t r = by_row (row_next p t r) ∙ ap (gone (events_at (current p t r
     by_row (Some w) = event_done p t r (events_at (current p t r)) w
 
 -- ---- programs with buffers of one have the same instructions
-pub rank_of_one : (xs : List RankProgram) (r : ℕ) → slice_index_or (map with_buffer_of_one xs) r idle_rank ≡ with_buffer_of_one (slice_index_or xs r idle_rank)
-rank_of_one [] r = refl
-rank_of_one (x ∷ xs) zero = refl
-rank_of_one (x ∷ xs) (suc r) = rank_of_one xs r
-
-pub buffers_small : (p : Programs) (r : ℕ) → (rank_of (with_buffers_of_one p) r).buffer ≡ 1
-buffers_small p r = ap (λ (x : RankProgram). x.buffer) (rank_of_one p.ranks r)
-
 pub same_reader : (p : Programs) → instr_at (with_buffers_of_one p) ≡ instr_at p
-same_reader p = fun_ext (λ r. fun_ext (λ k. ap (λ (x : RankProgram). slice_get x.instructions k) (rank_of_one p.ranks r)))
+same_reader p = fun_ext (λ r. fun_ext (λ k. ap (λ (x : RankProgram). slice_get x.instructions k) (one_rank p.ranks r)))
 
 pub same_count : (p : Programs) → length (with_buffers_of_one p).ranks ≡ length p.ranks
 same_count p = length-map p.ranks with_buffer_of_one

@@ -1,17 +1,18 @@
 -- The rendezvous run by where the ranks stand: how it goes on, where it ends, and that it does
-use Rattle.std.proofs.Common.{◌≡◌, ◌∙◌, ◌↔◌, ℕ, ◌+◌, ◌<◌, ◌≤◌, ◌^◌, Bool, true, false, is_some, List, [], ◌∷◌, ◌++◌, length, fold, slice_get, Option, Some, refl, sym, ap, ap₂, subst, arith}
+use Rattle.std.proofs.Common.{◌≡◌, ◌∙◌, ℕ, ◌+◌, ◌<◌, ◌≤◌, ◌^◌, true, false, is_some, List, [], ◌∷◌, ◌++◌, length, fold, refl, sym, ap, ap₂, subst, arith}
 use Rattle.std.proofs.lemmas.Option.{slice_get_within}
 use Rattle.std.proofs.lemmas.List.Sums.{get_or-le-sum_by}
-use Rattle.std.specs.Prelude.{IsTrue}
 use Rattle.qm_instr.specs.Programs.{Programs, RankProgram, rank_of, idle_rank, IsInRange, instruction_total}
 use Rattle.qm_proto.specs.Model.Rows.{current, rows, instr_at}
 use Rattle.qm_proto.specs.Model.Runs.{enabled, has_event, row_next, next_tables}
-use Rattle.qm_proto.specs.Model.Schedules.{tables_at_start, with_buffer_of_one, with_buffers_of_one, IsLowestEnabled, IsMeetingFrom, AllEnded, RendezvousEnds}
+use Rattle.qm_proto.specs.Model.Schedules.{tables_at_start, with_buffers_of_one, IsLowestEnabled, IsMeetingFrom, AllEnded, RendezvousEnds}
 use Rattle.qm_proto.specs.Model.State.{Tables}
 use Rattle.qm_ideal.specs.Meetings.{Stand, stand_of, Reader, may_go, go, shape_next, IsLeast}
 use Rattle.qm_ideal.specs.MeetingRuns.{IsLowestMeeting, IsOnMeetingsWay, IsMeetingsEnd, stand_left}
-use Rattle.qm_ideal.proofs.MeetingLemmas.{able_same, left_same, next_same, buffers_small, same_reader, same_count, rank_of_one}
-use Rattle.qm_ideal.proofs.RunsExist.{IsNextRow, next_row, work_left_falls, rows_count, events_few, one_meeting}
+use Rattle.qm_ideal.proofs.MeetingLemmas.{able_same, left_same, next_same, same_reader, same_count}
+use Rattle.qm_ideal.proofs.RunsExist.{IsNextRow, next_row, work_left_falls, events_few, one_meeting}
+use Rattle.qm_runs.proofs.Stuck.Rendezvous.{one_rank, small}
+use Rattle.qm_runs.proofs.Tables.Lines.{rows_count}
 
 lowest_push : (p : Programs) (rs : List ℕ) (r : ℕ) (t : Tables) → IsLowestMeeting p t rs → IsLowestEnabled p (fold (next_tables p) t rs) r
     → IsLowestMeeting p t (rs ++ r ∷ [])
@@ -32,7 +33,7 @@ module _ (p : Programs) where
   q = with_buffers_of_one p
 
   able_here : (t : Tables) (s : Stand) → stand_of t ≡ s → (r : ℕ) → enabled q t r ≡ may_go (instr_at p) s r
-  able_here t s stand r = able_same q (buffers_small p) t r ∙ ap₂ (λ (f : Reader) u. may_go f u r) (same_reader p) stand
+  able_here t s stand r = able_same q (small p) t r ∙ ap₂ (λ (f : Reader) u. may_go f u r) (same_reader p) stand
 
   lowest_here : (t : Tables) (s : Stand) → stand_of t ≡ s → (r : ℕ) → IsLeast (may_go (instr_at p) s) (length p.ranks) r → IsLowestEnabled q t r
   lowest_here t s stand r low =
@@ -88,7 +89,7 @@ module _ (p : Programs) where
       let t = way.tables in
       let n = row_here s r way low in
       let within : (t.parts r).at < length (rank_of q r).instructions = slice_get_within (rank_of q r).instructions (t.parts r).at n.instruction n.here in
-      let same : length (rank_of q r).instructions ≡ length (rank_of p r).instructions = ap (λ (x : RankProgram). length x.instructions) (rank_of_one p.ranks r) in
+      let same : length (rank_of q r).instructions ≡ length (rank_of p r).instructions = ap (λ (x : RankProgram). length x.instructions) (one_rank p.ranks r) in
       let total : length (rank_of p r).instructions ≤ instruction_total p = get_or-le-sum_by (λ x. length x.instructions) p.ranks r idle_rank low.known in
       let e : (t.parts r).at ≡ s.at r = ap (λ (z : Stand). z.at r) way.stand in
       omega (arith, within, same, total, ranges.few, e)

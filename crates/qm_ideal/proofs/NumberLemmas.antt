@@ -1,24 +1,13 @@
 -- Bits and ranks as numbers
-use Rattle.std.proofs.Common.{◌≡◌, ℕ, zero, suc, ◌+◌, ◌*◌, ◌-◌, ◌<◌, ◌≤◌, ◌^◌, Bool, true, false, if◌then◌else◌, List, [], ◌∷◌, length, map, slice_get, slice_index_or, Option, Some, None, refl, sym, ap, ◌∙◌, arith}
-use Rattle.std.proofs.lemmas.Nat.{pow_pos}
+use Rattle.std.proofs.Common.{◌≡◌, ℕ, zero, suc, ◌+◌, ◌-◌, ◌<◌, ◌≤◌, ◌^◌, List, [], ◌∷◌, length, map, slice_get, slice_index_or, Some, None, refl, sym, ap, ◌∙◌, arith}
 use Rattle.std.proofs.Math.Nat.{pow-succ', pow-le-pow_right}
 use Rattle.std.proofs.lemmas.Option.{slice_get_read}
 use Rattle.qm_instr.specs.Programs.{Programs}
 use Rattle.qm_proto.specs.Model.Ideal.{IdealTables, has_instr}
 use Rattle.qm_ideal.specs.declared.tables.Rank.{Rank}
-use Rattle.qm_ideal.specs.OneCircuits.{number_of_bits, left_from, no_rank}
+use Rattle.qm_bits.proofs.NumberLemmas.{digit_few}
+use Rattle.qm_ideal.specs.OneCircuits.{left_from, no_rank}
 use Rattle.qm_ideal.specs.Views.{end_of, slot_in, bits_in}
-
-digit_few : (b : Bool) → (if b then 1 else 0) ≤ 1
-digit_few true = omega arith
-digit_few false = omega arith
-
-pub number_of_bits-below : (bs : List Bool) (n : ℕ) → length bs ≤ n → number_of_bits bs < 2 ^ n
-number_of_bits-below [] n few = pow_pos n
-number_of_bits-below (b ∷ bs) zero few = absurd (omega arith)
-number_of_bits-below (b ∷ bs) (suc n) few =
-    let rest : number_of_bits bs < 2 ^ n = number_of_bits-below bs n (omega arith) in
-    omega (arith, digit_few b, pow-succ' 2 n)
 
 pub left_from-below : (p : Programs) (t : IdealTables) (r n : ℕ) → left_from p t r n < 2 ^ n
 left_from-below p t r zero = omega arith

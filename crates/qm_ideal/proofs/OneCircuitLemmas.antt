@@ -2,10 +2,10 @@
 use Rattle.std.proofs.Common.{◌≡◌, ◌≢◌, ◌∙◌, ℕ, zero, suc, ◌+◌, ◌*◌, ◌<◌, ◌≤◌, Bool, true, false, if◌then◌else◌, List, length, map, refl, sym, ap, subst, arith}
 use Rattle.qm_instr.specs.Programs.{Programs}
 use Rattle.qm_proto.specs.Model.Ideal as model
-use Rattle.qm_proto.specs.Model.Ideal.{IdealPart, IdealTables, IdealState, has_instr, ideal_replay, AllDone}
+use Rattle.qm_proto.specs.Model.Ideal.{IdealTables, IdealState, has_instr, AllDone}
 use Rattle.qm_ideal.specs.declared.run.Run.{Run}
 use Rattle.qm_ideal.specs.declared.tables.Rank.{Rank}
-use Rattle.qm_ideal.specs.OneCircuits.{OneView, IsOneCircuit, EndsEarly, left_from, wires_below, wires_in, slot_of, bits_of}
+use Rattle.qm_ideal.specs.OneCircuits.{OneView, IsOneCircuit, EndsEarly, left_from, wires_below, wires_in, slot_of}
 use Rattle.qm_ideal.specs.OneRuns.{IsItsEnd}
 use Rattle.qm_ideal.specs.Views.{state_of, tables_of, slots_at, view_of_run, end_of, part_in, bits_in}
 use Rattle.qm_ideal.proofs.NumberLemmas.{slot_at_end, bits_at_end}

@@ -1,17 +1,18 @@
 -- The run of the lowest enabled ranks: how it goes on, where it ends, and that it does
-use Rattle.std.proofs.Common.{◌≡◌, ◌≢◌, ℕ, zero, suc, ◌+◌, ◌-◌, ◌<◌, ◌≤◌, ◌⊎◌, inl, inr, true, false, List, [], ◌∷◌, ◌++◌, length, fold, Option, Some, refl, sym, ap, subst, ◌∙◌, arith, slice_get}
+use Rattle.std.proofs.Common.{◌≡◌, ◌≢◌, ℕ, ◌+◌, ◌-◌, ◌<◌, ◌≤◌, false, List, [], ◌∷◌, ◌++◌, length, fold, refl, sym, ap, subst, ◌∙◌, arith}
 use Rattle.std.proofs.lemmas.Option.{slice_get_within}
 use Rattle.qm_instr.specs.declared.Instr.{Instr}
 use Rattle.qm_instr.specs.declared.Instr.TheVariants as instr
-use Rattle.qm_instr.specs.Programs.{Programs, rank_of, IsInRange}
-use Rattle.qm_proto.specs.Model.Ideal.{IdealPart, IdealTables, IdealState, IdealAct, ideal_enabled, ideal_current, ideal_next, ideal_at_start, ideal_replay, IsLowestIdeal, IsIdealFrom, IsIdealRun, IsOneFrom, IsOneRun}
+use Rattle.qm_instr.specs.Programs.{Programs, rank_of}
+use Rattle.qm_proto.specs.Model.Ideal.{IdealPart, IdealTables, IdealState, IdealAct, ideal_enabled, ideal_next, ideal_at_start, ideal_replay, IsLowestIdeal, IsIdealFrom, IsOneFrom, IsOneRun}
 use Rattle.qm_proto.proofs.Changes.{by_number}
-use Rattle.qm_runs.proofs.Confluence.Effects.{stepped, past, part_act, part_stepped, part_elsewhere}
+use Rattle.qm_runs.proofs.Confluence.Effects.{part_act, part_stepped, part_elsewhere}
 use Rattle.qm_runs.proofs.Confluence.ByView.{View, acts_by, view}
 use Rattle.qm_runs.proofs.Confluence.Helpers.{IsNext, next_where_able}
 use Rattle.qm_runs.proofs.Confluence.WellIdeal.{at_same}
 use Rattle.qm_runs.proofs.Confluence.Diamond.{next_is}
-use Rattle.qm_ideal.specs.OneRuns.{IsLowestFrom, IsOnTheWay, IsItsEnd, sum_below, instructions_left}
+use Rattle.qm_ideal.specs.OneRuns.{IsLowestFrom, IsOnTheWay, IsItsEnd, instructions_left}
+use Rattle.qm_runs.proofs.Tables.Sums.{sum_below-lt}
 
 module _ (p : Programs) where
   -- ---- one rank more
@@ -114,29 +115,6 @@ module _ (p : Programs) where
       (few_after way.ranks (ideal_at_start p) (ideal_from_lowest way.ranks (ideal_at_start p) way.lowest) (λ r. omega arith))
 
   -- ---- the number of instructions left falls
-  same_or_below : (k n : ℕ) → k < suc n → (k ≡ n) ⊎ (k < n)
-  same_or_below k n h = grind arith
-
-  sum_below-le : (f g : ℕ → ℕ) (n : ℕ) → ((k : ℕ) → k < n → f k ≤ g k) → sum_below f n ≤ sum_below g n
-  sum_below-le f g zero each = omega arith
-  sum_below-le f g (suc n) each =
-      let rest = sum_below-le f g n (λ k h. each k (omega arith)) in
-      let last = each n (omega arith) in
-      omega arith
-
-  pub sum_below-lt : (f g : ℕ → ℕ) (n r : ℕ) → ((k : ℕ) → k < n → f k ≤ g k) → r < n → f r < g r → sum_below f n < sum_below g n
-  sum_below-lt f g zero r each known less = absurd (omega arith)
-  sum_below-lt f g (suc n) r each known less = elim (same_or_below r n known) [
-    | inl e ↦
-        let rest = sum_below-le f g n (λ k h. each k (omega arith)) in
-        let last = subst (λ k. f k < g k) e less in
-        omega arith
-    | inr below ↦
-        let rest = sum_below-lt f g n r (λ k h. each k (omega arith)) below less in
-        let last = each n (omega arith) in
-        omega arith
-  ]
-
   pub left_falls : (s u : IdealState) (r : ℕ) → IsLowestIdeal p s.tables r → u ≡ ideal_next p s r → instructions_left p u.tables < instructions_left p s.tables
   left_falls s u r low is =
       let n = next_where_able p s.tables r low.able in

@@ -1,16 +1,17 @@
 -- The letters of a circuit find room where the capacity is at least the width
-use Rattle.std.proofs.Common.{◌≡◌, ◌∙◌, ℕ, ◌+◌, ◌*◌, ◌<◌, ◌≤◌, Bool, true, false, cond, max, List, [], ◌∷◌, ◌++◌, length, filter, refl, sym, ap, arith}
+use Rattle.std.proofs.Common.{ℕ, ◌+◌, ◌*◌, ◌≤◌, Bool, true, false, cond, List, [], ◌∷◌, ◌++◌, length, filter, arith}
 use Rattle.std.proofs.lemmas.List.{length-append}
 use Rattle.std.proofs.lemmas.List.Sums.{length-filter, count_by-le-length}
 use Rattle.qm_denot.specs.declared.Wire.{Wire}
 use Rattle.qm_denot.specs.declared.Letter.{Letter}
 use Rattle.qm_denot.specs.declared.Letter.TheVariants.{Phase, Flip, Had, Cx, Cz, Pair, Keep, Take, Rename}
 use Rattle.qm_denot.specs.Stores.{live_after}
-use Rattle.qm_denot.specs.WireLists.{lacks, without_wire, with_renamed}
+use Rattle.qm_denot.specs.WireLists.{lacks, without_wire}
 use Rattle.qm_denot.specs.Weights.{operands, also}
 use Rattle.qm_denot.specs.Wires.{is_wire}
 use Rattle.qm_proto.specs.Model.Ideal.{made_fresh, width, width_from}
 use Rattle.qm_ideal.specs.Room.{MakesFresh, FindsRoom, AllFindRoom, WidthLaw}
+use Rattle.qm_denot.proofs.RenameLaws.{length-renamed}
 
 -- ---- lengths
 filter_few : (f : Wire → Bool) (ws : List Wire) → length (filter f ws) ≤ length ws
@@ -24,15 +25,11 @@ without_few (v ∷ ws) w = by_bool (is_wire v w) (without_few ws w)
     by_bool true rest = omega (arith, rest)
     by_bool false rest = omega (arith, rest)
 
-renamed_long : (ws : List Wire) (a b : Wire) → length (with_renamed ws a b) ≡ length ws
-renamed_long [] a b = refl
-renamed_long (v ∷ ws) a b = let rest = renamed_long ws a b in omega (arith, rest)
-
 -- the wires that are live after a letter, which may be a pair
 after_few : (l : Letter) (cap : ℕ) (now : List Wire) → length now ≤ cap → FindsRoom cap now l → length (live_after l now) ≤ cap
 after_few (Pair a b) cap now few room = let e = length-append now (a ∷ b ∷ []) in omega (arith, e, room)
 after_few (Take w m) cap now few room = let e = without_few now w in omega (arith, e, few)
-after_few (Rename a b) cap now few room = let e = renamed_long now a b in omega (arith, e, few)
+after_few (Rename a b) cap now few room = let e = length-renamed now a b in omega (arith, e, few)
 after_few (Phase k w) cap now few room = few
 after_few (Flip w) cap now few room = few
 after_few (Had w) cap now few room = few
@@ -118,7 +115,7 @@ made_few (Rename a b) = omega arith
 after_more : (l : Letter) (now : List Wire) → length (live_after l now) + length (made_fresh l) ≤ length now + 2
 after_more (Pair a b) now = let e = length-append now (a ∷ b ∷ []) in omega (arith, e)
 after_more (Take w m) now = let e = without_few now w in omega (arith, e)
-after_more (Rename a b) now = let e = renamed_long now a b in omega (arith, e)
+after_more (Rename a b) now = let e = length-renamed now a b in omega (arith, e)
 after_more (Phase k w) now = omega arith
 after_more (Flip w) now = omega arith
 after_more (Had w) now = omega arith

@@ -1,5 +1,5 @@
 -- A run has few steps, and its circuit few letters
-use Rattle.std.proofs.Common.{◌≡◌, ◌∙◌, ℕ, zero, suc, ◌+◌, ◌-◌, ◌*◌, ◌<◌, ◌≤◌, suc-mul, Bool, true, false, List, [], ◌∷◌, ◌++◌, length, fold, refl, sym, ap, subst, arith}
+use Rattle.std.proofs.Common.{◌≡◌, ℕ, zero, suc, ◌+◌, ◌-◌, ◌*◌, ◌<◌, ◌≤◌, suc-mul, Bool, true, false, List, [], ◌∷◌, ◌++◌, length, fold, refl, ap, arith}
 use Rattle.std.proofs.lemmas.List.{length-append}
 use Rattle.std.proofs.lemmas.List.Sums.{get_or-le-sum_by}
 use Rattle.qm_denot.specs.declared.Letter.{Letter}
@@ -7,12 +7,14 @@ use Rattle.qm_denot.specs.Protocols.{letter_if}
 use Rattle.qm_instr.specs.declared.Instr.{Instr}
 use Rattle.qm_instr.specs.declared.Instr.TheVariants as instr
 use Rattle.qm_instr.specs.Programs.{Programs, IsInRange, rank_of, idle_rank, instruction_total}
-use Rattle.qm_proto.specs.Model.Ideal.{IdealTables, IdealState, ideal_next, ideal_at_start, ideal_replay, IsOneFrom, IsOneRun}
+use Rattle.qm_proto.specs.Model.Ideal.{IdealState, ideal_next, ideal_at_start, ideal_replay, IsOneFrom, IsOneRun}
 use Rattle.qm_runs.proofs.Confluence.ByView.{View, letters_by, view, bit_in}
 use Rattle.qm_runs.proofs.Confluence.Helpers.{next_where_able}
 use Rattle.qm_runs.proofs.Confluence.Diamond.{next_is}
-use Rattle.qm_ideal.specs.OneRuns.{IsItsEnd, sum_below, instructions_left}
+use Rattle.qm_ideal.specs.OneRuns.{IsItsEnd, instructions_left}
 use Rattle.qm_ideal.proofs.OneRunLemmas.{left_falls}
+use Rattle.qm_ideal.specs.OneCircuits.{most_letters}
+use Rattle.qm_runs.specs.Tables.Totals.{sum_below}
 
 if_few : (b : Bool) (l : Letter) → length (letter_if b l) ≤ 2
 if_few true l = omega arith
@@ -60,7 +62,7 @@ module _ (p : Programs) where
       let all = sum_few (λ r. length (rank_of p r).instructions - 0) (length p.ranks) 100000 each in
       omega (arith, all, ranges.most_ranks)
 
-  pub letters_bound : IsInRange p → (s : IdealState) → IsItsEnd p s → length s.circuit ≤ 3200000
+  pub letters_bound : IsInRange p → (s : IdealState) → IsItsEnd p s → length s.circuit ≤ most_letters
   unfolding ideal_replay IsOneRun
   letters_bound ranges s end =
       let few = run_few end.ranks (ideal_at_start p) end.run in

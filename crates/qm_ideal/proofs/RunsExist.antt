@@ -1,5 +1,5 @@
 -- The run of the lowest enabled ranks exists, where each step makes a number smaller, and is one at most
-use Rattle.std.proofs.Common.{◌≡◌, ◌≢◌, ◌∙◌, ℕ, zero, suc, ◌+◌, ◌-◌, ◌*◌, ◌<◌, ◌≤◌, ◌⊎◌, nat_lt, Bool, true, false, is_some, List, [], ◌∷◌, length, Option, Some, None, slice_get, inl, inr, refl, sym, ap, subst, arith}
+use Rattle.std.proofs.Common.{◌≡◌, ◌≢◌, ◌∙◌, ℕ, zero, suc, ◌+◌, ◌-◌, ◌*◌, ◌<◌, ◌≤◌, nat_lt, Bool, true, false, List, [], ◌∷◌, length, Option, Some, None, slice_get, inl, inr, refl, sym, ap, subst, arith}
 use Rattle.std.proofs.lemmas.Option.{slice_get_within}
 use Rattle.qm_instr.specs.declared.Instr.{Instr}
 use Rattle.qm_instr.specs.declared.Instr.TheVariants as instr
@@ -10,15 +10,18 @@ use Rattle.qm_proto.specs.Model.State.{Part, Tables}
 use Rattle.qm_proto.specs.Model.Acts.{all_done, list_of}
 use Rattle.qm_proto.specs.Model.Rows.{current, rows}
 use Rattle.qm_proto.specs.Model.Runs.{row_in, row_next, row_holds, enabled, moved_on, events_at, row_done, next_tables}
-use Rattle.qm_proto.specs.Model.Schedules.{tables_at_start, with_buffers_of_one, IsLowestEnabled, IsMeetingFrom}
+use Rattle.qm_proto.specs.Model.Schedules.{tables_at_start, with_buffers_of_one, IsMeetingFrom}
 use Rattle.qm_proto.specs.Model.Ideal.{IdealState, ideal_enabled, ideal_next, ideal_at_start, IsOneFrom, IsOneRun}
 use Rattle.qm_proto.proofs.Changes.{by_test, by_number, with_at-here, with_at-elsewhere}
 use Rattle.qm_proto.proofs.Firsts.{one_run_unique, lowest_enabled_unique}
-use Rattle.qm_proto.proofs.Positions.{all_at_kept, all_stage_kept, all_other_parts_kept}
+use Rattle.qm_proto.proofs.Positions.{all_at_kept, all_stage_kept}
 use Rattle.qm_runs.proofs.Confluence.Confluent.{least, IsLeast}
 use Rattle.qm_ideal.specs.Existence.{OneRunLaw, RendezvousRunLaw}
-use Rattle.qm_ideal.specs.OneRuns.{sum_below, instructions_left}
-use Rattle.qm_ideal.proofs.OneRunLemmas.{left_falls, sum_below-lt}
+use Rattle.qm_ideal.specs.OneRuns.{instructions_left}
+use Rattle.qm_ideal.proofs.OneRunLemmas.{left_falls}
+use Rattle.qm_runs.proofs.Tables.Lines.{rows_count}
+use Rattle.qm_runs.proofs.Tables.Sums.{sum_below-lt}
+use Rattle.qm_runs.specs.Tables.Totals.{sum_below}
 
 -- ---- any machine of n ranks
 module _ {S : Type 0} (able : S → ℕ → Bool) (next : S → ℕ → S) (n : ℕ) where
@@ -59,10 +62,6 @@ pub one_run : OneRunLaw
 one_run p = record { some = some_one_run p; one = one_run_unique p }
 
 -- ---- the machine with letters left aside
-pub rows_count : (p : Programs) (t : Tables) (r : ℕ) (i : Instr) → length (rows p t r i) ≡ events_of i
-rows_count p t r (instr.Alloc q) = refl
-rows_count p t r _ = refl
-
 pub events_few : (i : Instr) → events_of i ≤ 5
 events_few (instr.Alloc q) = omega arith
 events_few _ = omega arith
@@ -126,7 +125,7 @@ module _ (p : Programs) where
     work_left_falls known =
         let w = λ (u : Tables) (k : ℕ). work (length (rank_of p k).instructions) (u.parts k) in
         let u = next_tables p t r in
-        sum_below-lt p (w u) (w t) (length p.ranks) r
+        sum_below-lt (w u) (w t) (length p.ranks) r
         (λ k below. by_number (λ k. w u k ≤ w t k) r (let less = here_falls in omega (arith, less)) (λ k other. let e = work_elsewhere k other in omega (arith, e)) k)
         known here_falls
 

@@ -1,5 +1,5 @@
 -- Wires that are named and live, as letters go by
-use Rattle.std.proofs.Common.{◌≡◌, ◌∙◌, ℕ, zero, suc, ◌+◌, ◌<◌, Bool, true, false, not, ◌&&◌, cond, List, [], ◌∷◌, ◌++◌, length, take, drop, filter, get_or, slice_set, refl, sym, ap, ap₂, arith, max, slice_get}
+use Rattle.std.proofs.Common.{◌≡◌, ◌∙◌, ℕ, zero, suc, ◌+◌, ◌<◌, Bool, true, false, not, ◌&&◌, cond, List, [], ◌∷◌, ◌++◌, length, take, drop, filter, get_or, slice_set, refl, sym, ap, ap₂, arith, max}
 use Rattle.std.proofs.Math.Path.{fun_ext}
 use Rattle.std.specs.BTreeMap.{is_at}
 use Rattle.qm_denot.specs.declared.Wire.{Wire}

@@ -1,12 +1,13 @@
 -- The rendezvous run as the code keeps it
-use Rattle.std.specs.Prelude.{ℕ, List, [], ◌∷◌, Option, Some, None, map, option_to_list, slice_get}
+use Rattle.std.specs.Prelude.{ℕ, Option, Some, None, map, option_to_list, slice_get}
 use Rattle.qm_ideal.specs.declared.lines.Line as code_line
 use Rattle.qm_ideal.specs.declared.lines.Move as code_move
 use Rattle.qm_ideal.specs.declared.lines.Move.TheVariants as variant
 use Rattle.qm_ideal.specs.declared.meeting.Meeting.{Meeting}
 use Rattle.qm_ideal.specs.declared.meeting.Place.{Place}
 use Rattle.qm_ideal.specs.Lanes.{lanes_of}
-use Rattle.qm_ideal.specs.Meetings.{Move, Puts, Tells, Gets, Shape, shape, Stand}
+use Rattle.qm_runs.specs.Stuck.Shapes.{Move, Puts, Tells, Gets, Shape, shape}
+use Rattle.qm_ideal.specs.Meetings.{Stand}
 
 abbrev pub move_meant : code_move.Move → Move
 move_meant (variant.Puts a b) = Puts a b

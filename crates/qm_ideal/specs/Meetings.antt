@@ -1,79 +1,14 @@
 -- The rendezvous run by what decides it: where each rank stands, and for each parcel of a lane whether it has bits
 use Rattle.std.specs.Prelude.{ℕ, ◌≡◌, ◌<◌, ◌+◌, nat_eq, nat_lt, Bool, true, false, ◌&&◌, if◌then◌else◌, List, [], ◌∷◌, ◌++◌, Option, Some, None, is_some, map, drop, fold, slice_get, slice_index_or, length}
 use Rattle.qm_instr.specs.declared.Instr.{Instr}
-use Rattle.qm_instr.specs.declared.Instr.TheVariants as instr
-use Rattle.qm_instr.specs.declared.Kind.TheVariants as kind
 use Rattle.qm_instr.specs.declared.Lane.{Lane}
-use Rattle.qm_instr.specs.Counts.{events_of}
-use Rattle.qm_instr.specs.Lanes.{lane}
-use Rattle.qm_instr.specs.Programs.{Programs}
-use Rattle.qm_proto.specs.declared.Act.{Act}
-use Rattle.qm_proto.specs.declared.Act.TheVariants.{Posts, Fills, Receives}
 use Rattle.qm_denot.specs.declared.Parcel.{Parcel}
-use Rattle.qm_proto.specs.declared.Row.{Row}
 use Rattle.qm_proto.specs.declared.Rule.{Rule}
 use Rattle.qm_proto.specs.declared.Rule.TheVariants.{Always, PairRoom, Engaged, Filled}
-use Rattle.qm_proto.specs.Model.Acts.{list_of}
-use Rattle.qm_proto.specs.Model.Rows.{instr_at}
 use Rattle.qm_proto.specs.Model.Runs.{receives_on, events_at}
-use Rattle.qm_proto.specs.Model.State.{Part, Tables, with_at, with_lane}
+use Rattle.qm_proto.specs.Model.State.{Tables, with_at, with_lane}
 use Rattle.qm_ideal.specs.Lanes.{last_set}
-
--- what an act does to a lane
-pub data Move : Type 0 where
-  Puts : (a : Lane) (told : Bool) → Move  -- a parcel goes to its end, with or without bits
-  Tells : (a : Lane) → Move  -- its last parcel gets bits
-  Gets : (a : Lane) → Move  -- its front parcel is taken
-
-abbrev pub moves : List Act → List Move
-moves [] = []
-moves (Posts a x ∷ acts) = Puts a (is_some x.bits) ∷ moves acts
-moves (Fills a b ∷ acts) = Tells a ∷ moves acts
-moves (Receives a ∷ acts) = Gets a ∷ moves acts
-moves (_ ∷ acts) = moves acts
-
--- what an event waits for, and what it does to lanes
-pub record Shape : Type 0 where
-  pub rule : Rule
-  pub moves : List Move
-
-abbrev pub shape : Rule → List Move → Shape
-shape rule ms = record { rule = rule; moves = ms }
-
-abbrev pub shape_of : Row → Shape
-shape_of w = shape w.rule (moves (list_of w.acts))
-
-abbrev pub still : Shape
-still = shape Always []
-
--- the events of an instruction of rank r
-abbrev pub shapes : ℕ → Instr → List Shape
-shapes r (instr.SendBit b to tag) = shape Always (Puts (lane r to kind.Bit tag) true ∷ []) ∷ []
-shapes r (instr.RecvBit b from tag) = let a = lane from r kind.Bit tag in shape (Filled a) (Gets a ∷ []) ∷ []
-shapes r (instr.CopyTo q to tag) =
-    let a = lane r to kind.Copy tag in shape (PairRoom a) (Puts a false ∷ []) ∷ still ∷ shape Always (Tells a ∷ []) ∷ []
-shapes r (instr.CopyFrom q from tag) = let a = lane from r kind.Copy tag in shape (Filled a) (Gets a ∷ []) ∷ still ∷ []
-shapes r (instr.UndoTo q to tag) = let a = lane r to kind.Undo tag in shape (Engaged a) [] ∷ shape Always (Puts a true ∷ []) ∷ []
-shapes r (instr.UndoFrom q from tag) = let a = lane from r kind.Undo tag in shape (Filled a) (Gets a ∷ []) ∷ still ∷ []
-shapes r (instr.MoveTo q to tag) =
-    let a = lane r to kind.Move tag in
-    shape (PairRoom a) (Puts a false ∷ []) ∷ still ∷ still ∷ still ∷ shape Always (Tells a ∷ []) ∷ []
-shapes r (instr.MoveFrom q from tag) = let a = lane from r kind.Move tag in shape (Filled a) (Gets a ∷ []) ∷ still ∷ still ∷ []
-shapes r (instr.ReachTo q to tag) =
-    let a = lane r to kind.Reach tag in
-    let back = lane to r kind.Back tag in
-    shape (PairRoom a) (Puts a false ∷ []) ∷ still ∷ shape Always (Tells a ∷ []) ∷ shape (Filled back) (Gets back ∷ []) ∷ still ∷ []
-shapes r (instr.ReachFrom q from tag) =
-    let a = lane from r kind.Reach tag in
-    let back = lane r from kind.Back tag in
-    shape (Filled a) (Gets a ∷ []) ∷ still ∷ still ∷ still ∷ shape Always (Puts back true ∷ []) ∷ []
-shapes r (instr.Alloc q) = still ∷ []
-shapes r (instr.Free q) = still ∷ []
-shapes r (instr.Do g) = still ∷ []
-shapes r (instr.Measure q b) = still ∷ []
-shapes r (instr.Set b v) = still ∷ []
-shapes r (instr.Xor b c) = still ∷ []
-shapes r (instr.When b g) = still ∷ []
+use Rattle.qm_runs.specs.Stuck.Shapes.{Move, Puts, Tells, Gets, Shape, shapes}
 
 -- where the ranks stand, and the lanes
 pub record Stand : Type 0 where

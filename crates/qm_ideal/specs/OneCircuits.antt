@@ -1,17 +1,16 @@
 -- The one circuit of programs, and why there is none
-use Rattle.std.specs.Prelude.{◌≡◌, ◌≢◌, ℕ, ◌+◌, ◌*◌, ◌<◌, zero, suc, Bool, true, false, slice_index_or, None, List, [], ◌∷◌, ◌++◌, Option, option_to_list, length, if◌then◌else◌}
+use Rattle.std.specs.Prelude.{◌≡◌, ℕ, ◌+◌, ◌*◌, ◌<◌, zero, suc, Bool, slice_index_or, None, List, [], ◌++◌, Option, option_to_list, length, if◌then◌else◌}
 use Rattle.qm_denot.specs.declared.Wire.{Wire}
 use Rattle.qm_denot.specs.Circuits.{Circuit}
 use Rattle.qm_instr.specs.Programs.{Programs}
 use Rattle.qm_proto.specs.Model.Ideal as model
-use Rattle.qm_proto.specs.Model.Ideal.{IdealTables, IdealState, ideal_replay, IsOneRun, AllDone, has_instr}
+use Rattle.qm_proto.specs.Model.Ideal.{IdealTables, ideal_replay, IsOneRun, AllDone, has_instr}
 use Rattle.qm_ideal.specs.declared.MonoError.{MonoError}
 use Rattle.qm_ideal.specs.declared.MonoError.TheVariants as error
 
--- the number whose binary digits are the bits, the lowest first
-abbrev pub number_of_bits : List Bool → ℕ
-number_of_bits [] = 0
-number_of_bits (b ∷ bs) = (if b then 1 else 0) + 2 * number_of_bits bs
+-- the most letters that the one circuit of programs in their ranges has
+abbrev pub most_letters : ℕ
+most_letters = 3200000
 
 -- the wires in the first n slots of a rank
 abbrev pub wires_below : (ℕ → Option Wire) → ℕ → List Wire

@@ -1,7 +1,8 @@
 -- The run of the lowest enabled ranks, as far as it has come
-use Rattle.std.specs.Prelude.{◌≡◌, ℕ, ◌+◌, ◌-◌, zero, suc, List, [], ◌∷◌, fold, length}
+use Rattle.std.specs.Prelude.{◌≡◌, ℕ, ◌-◌, List, [], ◌∷◌, fold, length}
 use Rattle.qm_instr.specs.Programs.{Programs, rank_of}
 use Rattle.qm_proto.specs.Model.Ideal.{IdealTables, IdealState, ideal_next, ideal_at_start, ideal_replay, IsLowestIdeal, IsOneRun}
+use Rattle.qm_runs.specs.Tables.Totals.{sum_below}
 
 -- each rank is the lowest that is enabled after those before it
 abbrev pub IsLowestFrom : Programs → IdealState → List ℕ → Type 0
@@ -19,11 +20,6 @@ pub record IsItsEnd (p : Programs) (s : IdealState) : Type 0 where
   pub ranks : List ℕ
   pub run : IsOneRun p ranks
   pub state : ideal_replay p ranks ≡ s
-
--- f 0 + f 1 + .. , n of them
-abbrev pub sum_below : (ℕ → ℕ) → ℕ → ℕ
-sum_below f zero = 0
-sum_below f (suc n) = sum_below f n + f n
 
 -- how many instructions are left
 abbrev pub instructions_left : Programs → IdealTables → ℕ

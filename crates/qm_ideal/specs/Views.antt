@@ -1,9 +1,8 @@
 -- The ideal tables that the code keeps
 use Rattle.std.specs.Prelude.{ℕ, Bool, false, List, map, drop, replicate, Option, Some, None, slice_get, slice_index_or}
 use Rattle.qm_denot.specs.declared.Wire.{Wire}
-use Rattle.qm_instr.specs.declared.Lane.{Lane}
 use Rattle.qm_instr.specs.Programs.{Programs, RankProgram, rank_of}
-use Rattle.qm_proto.specs.Model.Ideal.{IdealPart, IdealTables, IdealState, Load, ideal_part_at_start, width}
+use Rattle.qm_proto.specs.Model.Ideal.{IdealPart, IdealTables, IdealState, ideal_part_at_start, width}
 use Rattle.qm_ideal.specs.declared.run.Run.{Run}
 use Rattle.qm_ideal.specs.declared.tables.Rank.{Rank}
 use Rattle.qm_ideal.specs.declared.tables.Tables.{Tables}

@@ -129,8 +129,10 @@ impl Meeting {
     fn lowest_enabled(&self, input: &Input) -> Option<u16>
         requires { length self.now.places.items ≡ length input.now.ranks }
         ensures { MatchOption result
-            ((r : ℕ) → r < length input.now.ranks → may_go (instr_at input.now) (stand_in self.now) r ≡ false)
-            (λ r. IsLeast (may_go (instr_at input.now) (stand_in self.now)) (length input.now.ranks) r) }
+            ((r : ℕ) → r < length input.now.ranks
+            → may_go (instr_at input.now) (stand_in self.now) r ≡ false)
+            (λ r. IsLeast (may_go (instr_at input.now) (stand_in self.now))
+            (length input.now.ranks) r) }
     {
         for rank in 0..input.ranks() {
             if self.is_enabled(input, rank) {

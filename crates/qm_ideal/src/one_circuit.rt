@@ -1,6 +1,7 @@
 //! The one circuit of programs.
 ghost use Rattle.std.specs.Prelude.{◌≡◌, ◌<◌, ◌≤◌, ◌++◌, length, IfOk, IfErr, OnOk};
-ghost use Rattle.qm_ideal.specs.OneCircuits.{wires_below, wires_in, left_from, number_of_bits, bits_of, slot_of, IsOneCircuit, Explains};
+ghost use Rattle.qm_bits.specs.Numbers.{number_of_bits};
+ghost use Rattle.qm_ideal.specs.OneCircuits.{wires_below, wires_in, left_from, bits_of, slot_of, most_letters, IsOneCircuit, Explains};
 ghost use Rattle.qm_ideal.specs.Views.{tables_of, slots_at, view_of_run};
 
 use crate::MonoError;
@@ -27,7 +28,11 @@ impl Model for OneCircuit {
 
     ghost Value = { OneView };
 
-    ghost view = { λ m. record { letters = m.letters.items; ranks = ends_of m.tables; width = m.width } };
+    ghost view = { λ m. record {
+      letters = m.letters.items;
+      ranks = ends_of m.tables;
+      width = m.width;
+    } };
 }
 
 impl OneCircuit {
@@ -106,7 +111,7 @@ fn push_wires(wires: &mut Vec<Wire>, tables: &Tables, rank: u16) -> Result<(), A
 /// The circuit, with its width, of a run that leaves no instruction.
 fn measured(alloc: Global, ranks: u16, run: Run) -> Result<OneCircuit, MonoError>
     requires few { ranks ≤ 16 }
-    requires short { length run.letters.items ≤ 3200000 }
+    requires short { length run.letters.items ≤ most_letters }
     ensures ok { IfOk result (λ m. m ≡ view_of_run ranks run) }
     ensures err { IfErr result (λ e. e ≡ MonoError.Memory) }
 {

@@ -70,7 +70,8 @@ fn is_enabled(input: &Input, tables: &Tables, rank: u16) -> bool
 fn lowest_enabled(input: &Input, tables: &Tables) -> Option<u16>
     requires { length tables.now.ranks.items ≡ length input.now.ranks }
     ensures { MatchOption result
-        ((r : ℕ) → r < length input.now.ranks → ideal_enabled input.now (tables_of input.now tables.now) r ≡ false)
+        ((r : ℕ) → r < length input.now.ranks
+        → ideal_enabled input.now (tables_of input.now tables.now) r ≡ false)
         (λ r. IsLowestIdeal input.now (tables_of input.now tables.now) r) }
 {
     for rank in 0..input.ranks() {

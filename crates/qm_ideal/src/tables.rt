@@ -1,15 +1,17 @@
 //! Where each rank stands, the wires in its slots, and what the lanes hold.
 ghost use Rattle.std.specs.Prelude.{◌≡◌, ◌<◌, ◌+◌, ◌^◌, ℕ, length, map, unwrap_or, slice_get, slice_index_or, nat_eq, false, None, drop, fold, IfOk, OnOk};
+ghost use Rattle.qm_bits.specs.Numbers.{number_of_bits};
 ghost use Rattle.qm_proto.specs.Model.State.{no_wire};
 ghost use Rattle.qm_proto.specs.Model.Acts.{list_of};
 ghost use Rattle.qm_proto.specs.Model.Ideal.{ideal_wire_in, ideal_made, ideal_current, ideal_offered, ideal_done, ideal_moved_on, Counts, SlotSet, Puts, Takes, OwnUsed, BitSet, load_at, wire_carried, bit_told, is_empty_lane, ideal_at_start};
 ghost use Rattle.qm_ideal.specs.Meanings.{act_meant, load_meant, load_in, IsSmall, AllSmall};
 ghost use Rattle.qm_ideal.specs.Lanes.{lanes_of};
-ghost use Rattle.qm_ideal.specs.OneCircuits.{number_of_bits, no_rank};
+ghost use Rattle.qm_ideal.specs.OneCircuits.{no_rank};
 ghost use Rattle.qm_ideal.specs.Views.{tables_of, slots_at, ends_of};
 
 use crate::lanes::Lanes;
 use crate::steps::{Act, Load};
+use qm_bits::{BITS, number_of_bits};
 use qm_denot::Wire;
 use qm_instr::{Input, Instr, Lane};
 use qm_proto::Few;
@@ -17,9 +19,6 @@ use std::alloc::{AllocError, Global};
 
 /// How many slots a rank may have.
 const SLOTS: usize = 16;
-
-/// How many classical bits a rank has.
-const BITS: usize = 32;
 
 /// What stands for the wire of an empty slot, and of a lane without one.
 const NO_WIRE: Wire = Wire {
@@ -43,11 +42,7 @@ impl Rank {
     fn number(&self) -> u32
         ensures { result ≡ number_of_bits self.now.bits }
     {
-        let mut number = 0;
-        for k in 0..BITS {
-            number = 2 * number + u32::from(self.bits[BITS - 1 - k]);
-        }
-        number
+        number_of_bits(&self.bits)
     }
 }
 

@@ -3,6 +3,7 @@ use Rattle.std.proofs.Common.{◌≡◌, ℕ, ◌+◌, ◌<◌, ◌≤◌, Bool,
 use Rattle.std.proofs.lemmas.List.{length-set, length-replicate, get_or_read}
 use Rattle.std.proofs.lemmas.List.Elements.{All-nil, All-push, All-set, All-get_or, All-replicate}
 use Rattle.std.proofs.lemmas.List.Sums.{sum_by-set, sum_by-le}
+use Rattle.qm_instr.specs.declared.programs.TheConstants.{MOST_INSTRUCTIONS, MOST_OUTCOMES}
 use Rattle.qm_instr.specs.declared.Instr.{Instr}
 use Rattle.qm_instr.specs.Operands.{HasOperands}
 use Rattle.qm_instr.specs.Programs.{RankProgram, Programs, idle_rank, rank_of, with_rank, with_sizes, idle, with_instruction, with_own, with_protocol, instruction_total, IsRankInRange, IsInRange}
@@ -24,7 +25,7 @@ instruction_total-with_instruction p r i known =
     omega (arith, longer, instruction_total-with_rank p r (record x { instructions = x.instructions ++ i ∷ [] }) known)
 
 -- a rank may be replaced by one in its ranges, if the instructions stay few
-with_rank-in_range : (p : Programs) (r : ℕ) (x : RankProgram) → r < length p.ranks → IsInRange p → IsRankInRange x → instruction_total (with_rank p r x) ≤ 100000 → IsInRange (with_rank p r x)
+with_rank-in_range : (p : Programs) (r : ℕ) (x : RankProgram) → r < length p.ranks → IsInRange p → IsRankInRange x → instruction_total (with_rank p r x) ≤ MOST_INSTRUCTIONS → IsInRange (with_rank p r x)
 with_rank-in_range p r x known h ranges few = record {
   least_version = h.least_version;
   last_version = h.last_version;
@@ -35,7 +36,7 @@ with_rank-in_range p r x known h ranges few = record {
 }
 
 -- the same number of instructions as before
-same_few : (p : Programs) (r : ℕ) (x : RankProgram) → r < length p.ranks → IsInRange p → length x.instructions ≡ length (rank_of p r).instructions → instruction_total (with_rank p r x) ≤ 100000
+same_few : (p : Programs) (r : ℕ) (x : RankProgram) → r < length p.ranks → IsInRange p → length x.instructions ≡ length (rank_of p r).instructions → instruction_total (with_rank p r x) ≤ MOST_INSTRUCTIONS
 same_few p r x known h same = omega (arith, instruction_total-with_rank p r x known, h.few)
 
 pub same_rank-in_range : (p : Programs) (r : ℕ) → r < length p.ranks → IsInRange p → IsInRange (with_rank p r (rank_of p r))
@@ -59,7 +60,7 @@ with_sizes-in_range p r q b known unwritten some_q most_q some_b most_b h =
     })
     (same_few p r now known h refl)
 
-pub with_instruction-in_range : (p : Programs) (r : ℕ) (i : Instr) → r < length p.ranks → HasOperands (rank_of p r).qubits i → instruction_total p < 100000 → IsInRange p → IsInRange (with_instruction p r i)
+pub with_instruction-in_range : (p : Programs) (r : ℕ) (i : Instr) → r < length p.ranks → HasOperands (rank_of p r).qubits i → instruction_total p < MOST_INSTRUCTIONS → IsInRange p → IsInRange (with_instruction p r i)
 with_instruction-in_range p r i known operands few h =
     let x = rank_of p r in
     let was = rank_of-in_range p r known h in
@@ -76,10 +77,10 @@ with_instruction-in_range p r i known operands few h =
     (omega (arith, instruction_total-with_instruction p r i known))
 
 -- a tape that had room has one outcome more
-longer_tape : (xs : List Bool) (m : Bool) → length xs < 1048576 → length (xs ++ m ∷ []) ≤ 1048576
+longer_tape : (xs : List Bool) (m : Bool) → length xs < MOST_OUTCOMES → length (xs ++ m ∷ []) ≤ MOST_OUTCOMES
 longer_tape xs m room = omega (arith, length-append xs (m ∷ []))
 
-pub with_own-in_range : (p : Programs) (r : ℕ) (m : Bool) → r < length p.ranks → length (rank_of p r).own < 1048576 → IsInRange p → IsInRange (with_own p r m)
+pub with_own-in_range : (p : Programs) (r : ℕ) (m : Bool) → r < length p.ranks → length (rank_of p r).own < MOST_OUTCOMES → IsInRange p → IsInRange (with_own p r m)
 with_own-in_range p r m known room h =
     let x = rank_of p r in
     let was = rank_of-in_range p r known h in
@@ -96,7 +97,7 @@ with_own-in_range p r m known room h =
     })
     (same_few p r now known h refl)
 
-pub with_protocol-in_range : (p : Programs) (r : ℕ) (m : Bool) → r < length p.ranks → length (rank_of p r).protocol < 1048576 → IsInRange p → IsInRange (with_protocol p r m)
+pub with_protocol-in_range : (p : Programs) (r : ℕ) (m : Bool) → r < length p.ranks → length (rank_of p r).protocol < MOST_OUTCOMES → IsInRange p → IsInRange (with_protocol p r m)
 with_protocol-in_range p r m known room h =
     let x = rank_of p r in
     let was = rank_of-in_range p r known h in

@@ -1,6 +1,7 @@
 -- The programs of all ranks, as a value of plain lists
 use Rattle.std.specs.Prelude.{ℕ, ◌≤◌, Bool, List, [], ◌∷◌, ◌++◌, length, replicate, sum_by, All, slice_index_or, slice_set}
 use Rattle.qm_instr.specs.declared.Instr.{Instr}
+use Rattle.qm_instr.specs.declared.programs.TheConstants.{MOST_INSTRUCTIONS, MOST_OUTCOMES}
 use Rattle.qm_instr.specs.Operands.{HasOperands}
 
 -- one rank: how many slots it has, how many halves its buffer holds, its instructions, and its two tapes of outcomes
@@ -59,8 +60,8 @@ pub record IsRankInRange (r : RankProgram) : Type 0 where
   pub some_buffer : 1 ≤ r.buffer
   pub most_buffer : r.buffer ≤ 8
   pub operands : All (HasOperands r.qubits) r.instructions
-  pub own : length r.own ≤ 1048576
-  pub protocol : length r.protocol ≤ 1048576
+  pub own : length r.own ≤ MOST_OUTCOMES
+  pub protocol : length r.protocol ≤ MOST_OUTCOMES
 
 -- version 1 or 2, 1 to 16 ranks, each in its ranges, and at most 100,000 instructions over all ranks
 pub record IsInRange (p : Programs) : Type 0 where
@@ -69,4 +70,4 @@ pub record IsInRange (p : Programs) : Type 0 where
   pub some_ranks : 1 ≤ length p.ranks
   pub most_ranks : length p.ranks ≤ 16
   pub each : All IsRankInRange p.ranks
-  pub few : instruction_total p ≤ 100000
+  pub few : instruction_total p ≤ MOST_INSTRUCTIONS

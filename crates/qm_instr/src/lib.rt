@@ -8,7 +8,7 @@ mod ranks;
 
 pub use counts::{event_count, own_count, protocol_count};
 pub use messages::{receive_lane, send_lane};
-pub use programs::Input;
+pub use programs::{Input, MOST_INSTRUCTIONS, MOST_OUTCOMES};
 
 #[cfg(test)]
 mod tests;

@@ -8,6 +8,12 @@ use crate::ranks::Rank;
 use std::alloc::{AllocError, Global};
 use std::marker::Model;
 
+/// How many instructions the ranks may have together.
+pub const MOST_INSTRUCTIONS: u32 = 100_000;
+
+/// How many outcomes a tape may have.
+pub const MOST_OUTCOMES: usize = 1_048_576;
+
 /// The programs of all ranks: a version, and for each rank its slots, its buffer, its instructions and its two tapes of outcomes.
 ///
 /// The version is 1 or 2, and there are 1 to 16 ranks. Each rank has 1 to 16 slots and a buffer of 1 to 8, its instructions name slots
@@ -68,7 +74,7 @@ impl Input {
     pub fn push(&mut self, rank: u16, i: Instr) -> Result<(), AllocError>
         requires known { rank < length self.old.ranks }
         requires operands { HasOperands (rank_of self.old rank).qubits i }
-        requires few { instruction_total self.old < 100000 }
+        requires few { instruction_total self.old < MOST_INSTRUCTIONS }
         ensures ok { OnOk result (self.new ≡ with_instruction self.old rank i) }
         ensures total { OnOk result (instruction_total self.new ≡ instruction_total self.old + 1) }
         ensures err { OnErr result (self.new ≡ self.old) }
@@ -81,7 +87,7 @@ impl Input {
     /// the programs as they were.
     pub fn push_own(&mut self, rank: u16, m: bool) -> Result<(), AllocError>
         requires known { rank < length self.old.ranks }
-        requires room { length (rank_of self.old rank).own < 1048576 }
+        requires room { length (rank_of self.old rank).own < MOST_OUTCOMES }
         ensures ok { OnOk result (self.new ≡ with_own self.old rank m) }
         ensures err { OnErr result (self.new ≡ self.old) }
     {
@@ -93,7 +99,7 @@ impl Input {
     /// leaves the programs as they were.
     pub fn push_protocol(&mut self, rank: u16, m: bool) -> Result<(), AllocError>
         requires known { rank < length self.old.ranks }
-        requires room { length (rank_of self.old rank).protocol < 1048576 }
+        requires room { length (rank_of self.old rank).protocol < MOST_OUTCOMES }
         ensures ok { OnOk result (self.new ≡ with_protocol self.old rank m) }
         ensures err { OnErr result (self.new ≡ self.old) }
     {
@@ -139,7 +145,7 @@ impl Input {
     pub fn count(&self, rank: u16) -> u32
         requires { rank < length self.now.ranks }
         ensures value { result ≡ length (rank_of self.now rank).instructions }
-        ensures few { result ≤ 100000 }
+        ensures few { result ≤ MOST_INSTRUCTIONS }
     {
         let part = &self.ranks[usize::from(rank)];
         part.instructions.len() as u32
@@ -149,7 +155,7 @@ impl Input {
     pub fn own(&self, rank: u16) -> &[bool]
         requires { rank < length self.now.ranks }
         ensures value { result.now ≡ (rank_of self.now rank).own }
-        ensures few { length result.now ≤ 1048576 }
+        ensures few { length result.now ≤ MOST_OUTCOMES }
     {
         let part = &self.ranks[usize::from(rank)];
         part.own.as_slice()
@@ -159,7 +165,7 @@ impl Input {
     pub fn protocol(&self, rank: u16) -> &[bool]
         requires { rank < length self.now.ranks }
         ensures value { result.now ≡ (rank_of self.now rank).protocol }
-        ensures few { length result.now ≤ 1048576 }
+        ensures few { length result.now ≤ MOST_OUTCOMES }
     {
         let part = &self.ranks[usize::from(rank)];
         part.protocol.as_slice()

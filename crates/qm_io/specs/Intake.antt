@@ -1,31 +1,28 @@
 -- What the reading of a whole text says of its source.
 use Rattle.std.specs.Prelude.{◌≡◌, ℕ, ◌<◌, ◌≤◌, List, length, Result, Ok, Err, Vec}
 use Rattle.std.specs.declared.alloc.Global.{Global}
+use Rattle.qm_io.specs.declared.intake.TheConstants.{TEXT_LIMIT}
 use Rattle.qm_io.specs.declared.intake.TextError.{TextError}
 use Rattle.qm_io.specs.declared.intake.TextError.TheVariants.{ReadFault, TooLong, Memory}
 use Rattle.qm_io.specs.Ends.{SourceView, Gave, IsSpent, led_by, Rose}
-
--- the most bytes of a text, 2^20
-abbrev pub text_limit : ℕ
-text_limit = 1048576
 
 -- the source gave this text whole, to its end
 pub record GaveAll (old new : SourceView) (text : List ℕ) : Type 0 where
   pub gave : Gave old new text
   pub spent : IsSpent new.left
-  pub short : length text ≤ text_limit
+  pub short : length text ≤ TEXT_LIMIT
 
 -- the source gave more than a text may have, and no read failed
 pub record GaveMore (old new : SourceView) : Type 0 where
   pub text : List ℕ
   pub gave : Gave old new text
-  pub long : text_limit < length text
+  pub long : TEXT_LIMIT < length text
 
 -- a read failed, before the source gave more than a text may have
 pub record FailedOnce (old new : SourceView) : Type 0 where
   pub text : List ℕ
   pub left : old.left ≡ led_by text new.left
-  pub short : length text ≤ text_limit
+  pub short : length text ≤ TEXT_LIMIT
   pub grows : old.faults ≤ new.faults
   pub rose : Rose old.faults new.faults
 

@@ -1,7 +1,7 @@
 -- A loop over the blocks of a list
 use Rattle.std.proofs.Common.{◌≡◌, ℕ, suc, ◌+◌, ◌*◌, ◌<◌, ◌≤◌, List, [], ◌∷◌, ◌++◌, length, take, drop, inl, inr, length-append, append_assoc, append-nil, refl, sym, ap, ap₂, subst, ◌∙◌, arith}
 use Rattle.std.proofs.lemmas.Bool.{cases_lt}
-use Rattle.std.proofs.lemmas.List.{take-append-drop}
+use Rattle.std.proofs.lemmas.List.{take-append-drop, nil_from_length}
 use Rattle.std.proofs.Math.Nat.{mul-le-mul_right}
 use Rattle.qm_kernels.specs.Blocks.{SoFar}
 
@@ -15,10 +15,6 @@ same_parts (u ∷ us) (v ∷ vs) xs ys e h =
     let tails : us ++ xs ≡ vs ++ ys = cc in
     let r = same_parts us vs xs ys tails (omega arith) in
     (ap₂ (λ a zs. a ∷ zs) heads r.0, r.1)
-
-empty_where_short : {A : Type 0} (xs : List A) → length xs ≡ 0 → xs ≡ []
-empty_where_short [] e = refl
-empty_where_short (x ∷ xs) e = absurd (omega arith)
 
 pub turns_left : (m n b : ℕ) → m * b < n * b → m * b + b ≤ n * b
 turns_left m n b h = elim (cases_lt m n) [
@@ -46,7 +42,7 @@ module _ {A : Type 0} (done : List A → List A → Type 0) (block : ℕ) where
     pub all_done : length now ≤ start → done old now
     all_done end =
         let n : length so_far.rest ≡ 0 = omega (arith, ap length so_far.now_is, length-append so_far.us so_far.rest, so_far.size_is) in
-        let none = empty_where_short so_far.rest n in
+        let none = nil_from_length so_far.rest n in
         let was : old ≡ so_far.xs = so_far.old_is ∙ ap (λ ys. so_far.xs ++ ys) none ∙ append-nil so_far.xs in
         let is : now ≡ so_far.us = so_far.now_is ∙ ap (λ ys. so_far.us ++ ys) none ∙ append-nil so_far.us in
         subst (λ xs. done xs now) (sym was) (subst (λ us. done so_far.xs us) (sym is) so_far.is_done)

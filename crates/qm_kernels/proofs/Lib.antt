@@ -5,3 +5,4 @@ pub mod ExchangeLaws
 pub mod PlaceFits
 pub mod SizeLaws
 pub mod ExactLaws
+pub mod SmallLaws

@@ -8,14 +8,11 @@ use Rattle.qm_denot.specs.Circuits.{same_bit}
 use Rattle.qm_denot.specs.Places.{bit_of, has_place, set_place, insert_place}
 use Rattle.qm_denot.specs.LettersByPlace.{pair_at}
 use Rattle.qm_kernels.specs.Done.{GatheredTo}
-use Rattle.qm_kernels.specs.IndexLaws.{has_place-above, set_place-above, low_bit, high_bit, low_kept, high_lowered}
+use Rattle.qm_kernels.specs.IndexLaws.{has_place-above, set_place-above, low_bit, high_bit, low_kept, high_lowered, doubled}
 use Rattle.qm_kernels.specs.DoneLaws.{seen-front, seen-back}
 use Rattle.qm_kernels.proofs.BlockLaws.{turns_left}
 
 -- ---- gathering
-doubled : (m e : ℕ) → m * 2 ^ suc e ≡ 2 * (m * 2 ^ e)
-doubled m e = let p = pow-suc 2 e in let q : m * (2 ^ e * 2) ≡ 2 * (m * 2 ^ e) = omega arith in rw p q
-
 insert_place-block : (p t r : ℕ) (b : Bool) → r < 2 ^ p → insert_place p b (t * 2 ^ p + r) ≡ 2 * (t * 2 ^ p) + bit_of b * 2 ^ p + r
 insert_place-block zero t r b h = omega arith
 insert_place-block (suc p) t r b h =

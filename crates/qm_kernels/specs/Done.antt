@@ -30,7 +30,8 @@ pub record WrittenTo {A B : Type 0} (see : A → B) (past : B) (g : ℕ → B) (
 -- how far a loop that exchanges the entries of two lists where they have the bit of a place has come, in the first of them
 pub record ExchangedTo {A : Type 0} (past : A) (place : ℕ) (one other now : List A) (start : ℕ) : Type 0 where
   pub size : length now ≡ length one
-  pub before : (i : ℕ) → i < start → seen_at (λ x. x) past now i ≡ cond (has_place place i) (seen_at (λ x. x) past other i) (seen_at (λ x. x) past one i)
+  pub before : (i : ℕ) → i < start
+      → seen_at (λ x. x) past now i ≡ cond (has_place place i) (seen_at (λ x. x) past other i) (seen_at (λ x. x) past one i)
   pub after : (i : ℕ) → start ≤ i → seen_at (λ x. x) past now i ≡ seen_at (λ x. x) past one i
 
 -- new is the first of two lists whose entries changed places where they have the bit of a place

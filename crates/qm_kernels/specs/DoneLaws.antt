@@ -37,7 +37,8 @@ pub record IsLocal {B : Type 0} (n : ℕ) (op : (ℕ → B) → ℕ → B) : Typ
   pub near : (f g : ℕ → B) (m r : ℕ) → r < m * n → ((j : ℕ) → j < m * n → f j ≡ g j) → op f r ≡ op g r
 
 module _ {A B : Type 0} (see : A → B) (past : B) (n : ℕ) (op : (ℕ → B) → ℕ → B) (local : IsLocal n op) where
-  op-front : (xs ys : List A) (m i : ℕ) → length xs ≡ m * n → i < length xs → op (seen_at see past (xs ++ ys)) i ≡ op (seen_at see past xs) i
+  op-front : (xs ys : List A) (m i : ℕ) → length xs ≡ m * n → i < length xs
+      → op (seen_at see past (xs ++ ys)) i ≡ op (seen_at see past xs) i
   op-front xs ys m i size h = local.near _ _ m i (omega arith) (λ j l. seen-front see past xs ys j (omega arith))
 
   op-back : (xs ys : List A) (m r : ℕ) → length xs ≡ m * n → op (seen_at see past (xs ++ ys)) (length xs + r) ≡ op (seen_at see past ys) r
@@ -84,7 +85,8 @@ pub done_nothing : {A B : Type 0} (see : A → B) (past : B) (op : (ℕ → B) �
 done_nothing see past op = record { size = refl; numbers = λ k h. absurd (omega arith) }
 
 -- what is seen of an entry
-pub seen-through : {A B : Type 0} (see : A → B) (past : B) (z : A) → see z ≡ past → (xs : List A) (k : ℕ) → see (seen_at (λ x. x) z xs k) ≡ seen_at see past xs k
+pub seen-through : {A B : Type 0} (see : A → B) (past : B) (z : A) → see z ≡ past → (xs : List A) (k : ℕ)
+    → see (seen_at (λ x. x) z xs k) ≡ seen_at see past xs k
 seen-through see past z e [] k = e
 seen-through see past z e (x ∷ xs) zero = refl
 seen-through see past z e (x ∷ xs) (suc k) = seen-through see past z e xs k
@@ -97,5 +99,6 @@ done_seen {A} {B} see past z e opA opB natural xs us done = record {
   size = done.size;
   numbers = λ k h.
       let same : (λ (j : ℕ). see (seen_at (λ x. x) z xs j)) ≡ seen_at see past xs = fun_ext (seen-through see past z e xs) in
-      sym (seen-through see past z e us k) ∙ ap see (done.numbers k h) ∙ natural (seen_at (λ x. x) z xs) k ∙ ap (λ (f : ℕ → B). opB f k) same;
+      sym (seen-through see past z e us k) ∙ ap see (done.numbers k h) ∙ natural (seen_at (λ x. x) z xs) k
+      ∙ ap (λ (f : ℕ → B). opB f k) same;
 }

@@ -5,7 +5,7 @@ use Rattle.qm_denot.specs.Places.{bit_of, has_place, set_place}
 use Rattle.qm_denot.proofs.PlaceLaws.{place_kept, place_added, place_cleared}
 
 -- a multiple of a higher power is twice a multiple of the power below
-doubled : (m e : ℕ) → m * 2 ^ suc e ≡ 2 * (m * 2 ^ e)
+pub doubled : (m e : ℕ) → m * 2 ^ suc e ≡ 2 * (m * 2 ^ e)
 doubled m e = let p = pow-suc 2 e in let q : m * (2 ^ e * 2) ≡ 2 * (m * 2 ^ e) = omega arith in rw p q
 
 -- ---- a place below those of the multiple

@@ -4,3 +4,4 @@ pub mod IndexLaws
 pub mod DoneLaws
 pub mod LocalLaws
 pub mod JoinLaws
+pub mod Small

@@ -10,7 +10,9 @@ use Rattle.qm_kernels.specs.DoneLaws.{IsLocal}
 module _ (e : ℕ) where
   pub flip_local : {A : Type 0} (p : ℕ) → p < e → IsLocal {B = A} (2 ^ e) (flip_at p)
   flip_local p h = record {
-    shifted = λ f m r. ap (λ b. f (set_place p (not b) (m * 2 ^ e + r))) (has_place-above p e m r h) ∙ ap f (set_place-above p e m r (not (has_place p r)) h);
+    shifted =
+        λ f m r. ap (λ b. f (set_place p (not b) (m * 2 ^ e + r))) (has_place-above p e m r h)
+        ∙ ap f (set_place-above p e m r (not (has_place p r)) h);
     near = λ f g m r l agree. agree _ (set_place-near p e m r (not (has_place p r)) h l);
   }
 
@@ -22,7 +24,9 @@ module _ (e : ℕ) where
 
   pub sign_local : (p q : ℕ) → p < e → q < e → IsLocal (2 ^ e) (sign_at p q)
   sign_local p q hp hq = record {
-    shifted = λ f m r. ap₂ (λ a b. cond (a && b) (negative (f (m * 2 ^ e + r))) (f (m * 2 ^ e + r))) (has_place-above p e m r hp) (has_place-above q e m r hq);
+    shifted =
+        λ f m r. ap₂ (λ a b. cond (a && b) (negative (f (m * 2 ^ e + r))) (f (m * 2 ^ e + r)))
+        (has_place-above p e m r hp) (has_place-above q e m r hq);
     near = λ f g m r l agree. ap (λ z. cond (has_place p r && has_place q r) (negative z) z) (agree r l);
   }
 
@@ -45,8 +49,10 @@ module _ (e : ℕ) where
     shifted = λ f m r.
         let n = m * 2 ^ e in
         ap (λ b. cond b (f (set_place p false (n + r)) ⊖ f (n + r)) (f (n + r) ⊕ f (set_place p true (n + r)))) (has_place-above p e m r h)
-        ∙ ap₂ (λ i j. cond (has_place p r) (f i ⊖ f (n + r)) (f (n + r) ⊕ f j)) (set_place-above p e m r false h) (set_place-above p e m r true h);
+        ∙ ap₂ (λ i j. cond (has_place p r) (f i ⊖ f (n + r)) (f (n + r) ⊕ f j))
+        (set_place-above p e m r false h) (set_place-above p e m r true h);
     near = λ f g m r l agree.
-        ap₂ (λ low high. cond (has_place p r) (low ⊖ f r) (f r ⊕ high)) (agree _ (set_place-near p e m r false h l)) (agree _ (set_place-near p e m r true h l))
+        ap₂ (λ low high. cond (has_place p r) (low ⊖ f r) (f r ⊕ high))
+        (agree _ (set_place-near p e m r false h l)) (agree _ (set_place-near p e m r true h l))
         ∙ ap (λ z. cond (has_place p r) (g (set_place p false r) ⊖ z) (z ⊕ g (set_place p true r))) (agree r l);
   }

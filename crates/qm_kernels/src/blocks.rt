@@ -27,7 +27,8 @@ pub trait Step<Z> {
 
     /// What is done to two lists of blocks is done to both.
     ghost joined: { (s : Self) (m : ℕ) (xs ys us vs : List Z)
-        → length xs ≡ m * (2 * half s) → length us ≡ length xs → done s xs us → done s ys vs → done s (xs ++ ys) (us ++ vs) };
+        → length xs ≡ m * (2 * half s) → length us ≡ length xs
+        → done s xs us → done s ys vs → done s (xs ++ ys) (us ++ vs) };
 
     /// What may be done to a list may be done to its parts.
     ghost parts: { (s : Self) (m : ℕ) (xs ys : List Z)

@@ -6,6 +6,7 @@ ghost use Rattle.qm_zomega.specs.Range.{FitsZw};
 ghost use Rattle.qm_denot.specs.Places.{HasPlace};
 ghost use Rattle.qm_denot.specs.LettersByPlace.{phase_at, flip_at, had_at, cross_at, sign_at, keep_at, take_at, pair_at};
 
+use crate::small::all_small;
 use crate::{moves, numbers, sizes};
 use qm_zomega::Zw;
 
@@ -58,7 +59,8 @@ pub fn keep(v: &mut [Zw], place: u32, m: bool)
 pub fn fits(lo: &[Zw], hi: &[Zw]) -> bool
     requires { length lo.now ≡ length hi.now }
     ensures { IsTrue result ↔ ((i : ℕ) → i < length lo.now
-        → FitsZw (number_at lo.now i ⊕ number_at hi.now i) × FitsZw (number_at lo.now i ⊖ number_at hi.now i)) }
+        → FitsZw (number_at lo.now i ⊕ number_at hi.now i)
+        × FitsZw (number_at lo.now i ⊖ number_at hi.now i)) }
 {
     numbers::all_fit(lo, hi)
 }
@@ -67,7 +69,8 @@ pub fn fits(lo: &[Zw], hi: &[Zw]) -> bool
 pub fn hadamard(lo: &mut [Zw], hi: &mut [Zw])
     requires same { length lo.old ≡ length hi.old }
     requires fits { (i : ℕ) → i < length lo.old
-        → FitsZw (number_at lo.old i ⊕ number_at hi.old i) × FitsZw (number_at lo.old i ⊖ number_at hi.old i) }
+        → FitsZw (number_at lo.old i ⊕ number_at hi.old i)
+        × FitsZw (number_at lo.old i ⊖ number_at hi.old i) }
     ensures sums { IsListOf lo.new (length lo.old) (λ i. number_at lo.old i ⊕ number_at hi.old i) }
     ensures differences { IsListOf hi.new (length lo.old)
         (λ i. number_at lo.old i ⊖ number_at hi.old i) }
@@ -81,7 +84,7 @@ pub fn had_fits(v: &[Zw], place: u32) -> bool
     ensures { IsTrue result ↔ ((i : ℕ) → i < length v.now
         → FitsZw (had_at place (number_at v.now) i)) }
 {
-    numbers::had_fits(v, place)
+    all_small(v) || numbers::had_fits(v, place)
 }
 
 /// `Had` on a place, where every number that it makes stays in the range.

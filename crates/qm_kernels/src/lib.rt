@@ -10,6 +10,7 @@ pub mod moves;
 mod number_steps;
 pub mod numbers;
 pub mod sizes;
+mod small;
 mod steps;
 
 pub use exact::{

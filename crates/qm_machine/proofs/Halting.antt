@@ -1,5 +1,5 @@
 -- The causes for which a step can't halt a machine, by the laws of runs
-use Rattle.std.proofs.Common.{◌≡◌, ◌⊎◌, ℕ, true, false, List, [], ◌∷◌, Option, Some, None, inl, inr, refl, sym, ap, subst, ◌∙◌}
+use Rattle.std.proofs.Common.{◌≡◌, ◌⊎◌, ℕ, List, [], ◌∷◌, Option, Some, None, inl, inr, refl, sym, ap, subst, ◌∙◌}
 use Rattle.std.proofs.lemmas.Option.{same_Some}
 use Rattle.qm_denot.specs.Circuits.{Circuit}
 use Rattle.qm_denot.specs.Stores.{Store}
@@ -11,8 +11,8 @@ use Rattle.qm_proto.specs.declared.Check.TheVariants.{Possible, Zero, Equal, Fit
 use Rattle.qm_proto.specs.declared.Event.TheVariants as event
 use Rattle.qm_proto.specs.declared.Row.{Row}
 use Rattle.qm_proto.specs.Model.Runs.{FirstFails, IsRefused, row_next, row_checks}
-use Rattle.qm_proto.specs.Model.Schedules.{replay, IsLegal, IsStuck, RendezvousEnds}
-use Rattle.qm_proto.specs.Model.State.{State, Tables}
+use Rattle.qm_proto.specs.Model.Schedules.{IsStuck, RendezvousEnds}
+use Rattle.qm_proto.specs.Model.State.{Tables}
 use Rattle.qm_runs.proofs.Stuck.Rendezvous.{never_stuck_law}
 use Rattle.qm_runs.proofs.Weighing.Exponents.{exponent_law}
 use Rattle.qm_runs.specs.Safety.Legal.{IsLegalRun}

@@ -3,7 +3,6 @@ pub mod Acting
 pub mod Passing
 pub mod RowsRead
 pub mod HalfSets
-pub mod BitNumbers
 pub mod RankTables
 pub mod LivePlaces
 pub mod PlaceTables

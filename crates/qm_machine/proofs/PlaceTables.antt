@@ -12,7 +12,7 @@ use Rattle.qm_owner.proofs.Placing.{slot_with}
 use Rattle.qm_owner.proofs.Standing.{at_with, at_without, there, back, slot_there, slot_back, has_place}
 use Rattle.qm_proto.specs.Model.State.{Tables, with_at, with_slot}
 use Rattle.qm_proto.specs.Model.Places as model
-use Rattle.qm_proto.specs.Model.Places.{InSlot, NearOf, FarOf, IsAt, IsPlaced, IsOnlyAt}
+use Rattle.qm_proto.specs.Model.Places.{InSlot, NearOf, FarOf, IsAt, IsPlaced}
 use Rattle.qm_proto.proofs.Changes.{by_rank}
 use Rattle.qm_machine.specs.Views.{slots_in, near_in, far_in}
 use Rattle.qm_machine.proofs.HalfSets.{false_unless, wires_of-push, wires_of-without, contained, has_where_contained}

@@ -6,24 +6,25 @@ use Rattle.qm_denot.specs.declared.Wire.{Wire}
 use Rattle.qm_denot.specs.Wires.{Wires}
 use Rattle.qm_instr.specs.declared.Lane.{Lane}
 use Rattle.qm_denot.specs.declared.Parcel.{Parcel}
-use Rattle.qm_proto.specs.Model.State.{Part, Tables, with_at}
+use Rattle.qm_proto.specs.Model.State.{Part, Tables, with_at, with_part}
 use Rattle.qm_proto.proofs.Changes.{by_rank}
 use Rattle.qm_machine.specs.declared.rank.Rank.{Rank}
-use Rattle.qm_machine.specs.Views.{part_of, part_in, part_at}
+use Rattle.qm_machine.specs.declared.books.Books.{Books}
+use Rattle.qm_machine.specs.Views.{part_of, part_in, part_at, mail_of, tables_of, tables, rank_count}
 
 -- ---- tables are equal where their fields are
-abbrev tables : (ℕ → Part) → (ℕ → ℕ → Option Wire) → (ℕ → Wires) → (ℕ → Wires) → (ℕ → ℕ) → (Lane → List Parcel) → Tables
-tables parts slots near far held lanes = record { parts = parts; slots = slots; near = near; far = far; held = held; lanes = lanes }
+abbrev tables_by : (ℕ → Part) → (ℕ → ℕ → Option Wire) → (ℕ → Wires) → (ℕ → Wires) → (ℕ → ℕ) → (Lane → List Parcel) → Tables
+tables_by parts slots near far held lanes = record { parts = parts; slots = slots; near = near; far = far; held = held; lanes = lanes }
 
 pub same_tables : (t u : Tables) → t.parts ≡ u.parts → t.slots ≡ u.slots → t.near ≡ u.near → t.far ≡ u.far → t.held ≡ u.held
     → t.lanes ≡ u.lanes → t ≡ u
 same_tables t u parts slots near far held lanes =
-    ap (λ (x : ℕ → Part). tables x t.slots t.near t.far t.held t.lanes) parts
-    ∙ ap (λ (x : ℕ → ℕ → Option Wire). tables u.parts x t.near t.far t.held t.lanes) slots
-    ∙ ap (λ (x : ℕ → Wires). tables u.parts u.slots x t.far t.held t.lanes) near
-    ∙ ap (λ (x : ℕ → Wires). tables u.parts u.slots u.near x t.held t.lanes) far
-    ∙ ap (λ (x : ℕ → ℕ). tables u.parts u.slots u.near u.far x t.lanes) held
-    ∙ ap (λ (x : Lane → List Parcel). tables u.parts u.slots u.near u.far u.held x) lanes
+    ap (λ (x : ℕ → Part). tables_by x t.slots t.near t.far t.held t.lanes) parts
+    ∙ ap (λ (x : ℕ → ℕ → Option Wire). tables_by u.parts x t.near t.far t.held t.lanes) slots
+    ∙ ap (λ (x : ℕ → Wires). tables_by u.parts u.slots x t.far t.held t.lanes) near
+    ∙ ap (λ (x : ℕ → Wires). tables_by u.parts u.slots u.near x t.held t.lanes) far
+    ∙ ap (λ (x : ℕ → ℕ). tables_by u.parts u.slots u.near u.far x t.lanes) held
+    ∙ ap (λ (x : Lane → List Parcel). tables_by u.parts u.slots u.near u.far u.held x) lanes
 
 -- ---- a list of ranks
 -- the rank that was read
@@ -59,3 +60,13 @@ parts_changed ranks i r old new change at below is changed =
     ap (λ j. part_at (slice_set ranks j new)) at
     ∙ parts_set ranks r new below
     ∙ ap (λ (x : Part). with_at (part_at ranks) r x) (changed ∙ ap change (part_read ranks i r old at below is))
+
+-- the tables of books in which that rank is changed
+pub tables_changed : (b : Books) (i r : ℕ) (old new : Rank) (change : Part → Part) → i ≡ r → r < rank_count b
+    → old ≡ slice_index_or b.ranks.items i old → part_of new ≡ change (part_of old)
+    → tables_of (slice_set b.ranks.items i new) b.places.placed b.halves (mail_of b.mail)
+    ≡ with_part (tables b) r (change ((tables b).parts r))
+unfolding tables
+tables_changed b i r old new change at below is changed =
+    let with : (ℕ → Part) → Tables = λ parts. let t = tables b in record t { parts = parts } in
+    ap with (parts_changed b.ranks.items i r old new change at below is changed)

@@ -32,7 +32,8 @@ use Rattle.qm_proto.specs.Model.Runs.{FirstFails, row_in, row_next, row_holds, r
 use Rattle.qm_proto.proofs.Positions.{all_at_kept, all_stage_kept}
 use Rattle.qm_runs.proofs.Tables.Lines.{rows_count}
 use Rattle.qm_machine.specs.Facts.{Facts, Did}
-use Rattle.qm_machine.specs.Tries.{IsRuleKnown, Passes, Stops, IsTriable, asked, told_by, are_sure}
+use Rattle.qm_machine.specs.Reads.{IsRuleKnown}
+use Rattle.qm_machine.specs.Tries.{Passes, Stops, IsTriable, asked, told_by, are_sure}
 
 -- ---- the lines of an instruction
 -- there are few of them

@@ -89,6 +89,22 @@ pub record SameStore (f g : Facts) : Type 0 where
   pub letters : g.letters ≡ f.letters
   pub paulis : g.paulis ≡ f.paulis
 
+-- the tables may be others, the lanes' room and the count of the ranks are said anew, and nothing else has changed
+pub same_beside : (f : Facts) (t : Tables) (room : Lane → ℕ) (n : ℕ) → IsPlacing f.places.placed → room ≡ f.parcels → n ≡ f.ranks
+    → SameStore f (record f { tables = t; parcels = room; ranks = n })
+same_beside f t room n placing parcels ranks =
+    record {
+      store = refl;
+      placing = placing;
+      slotted = refl;
+      capacity = refl;
+      sizes = refl;
+      parcels = parcels;
+      ranks = ranks;
+      letters = refl;
+      paulis = refl;
+    }
+
 module _ (f g : Facts) (r : ℕ) (same : SameStore f g) where
   did_quietly : (act : Act) → Can f r (act ∷ []) → g.tables ≡ done r act f.tables → all_letters r (act ∷ []) f.tables ≡ []
       → limits_after act (limits_of f) ≡ limits_of f → AreLive f.store.live (done r act f.tables) → Did f r (act ∷ []) g

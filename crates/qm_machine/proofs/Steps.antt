@@ -35,7 +35,6 @@ use Rattle.qm_runs.proofs.Weighing.Weights.{weight_law}
 
 -- the store of what a body means is the body's
 pub facts_store : {A : Type 0} (store : A → Store) (b : Body A) → (facts store b).store ≡ store b.amps
-unfolding facts
 facts_store store b = refl
 
 pub none_by : {A : Type 0} (o : Option A) → is_some o ≡ false → o ≡ None

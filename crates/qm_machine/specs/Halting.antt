@@ -1,5 +1,5 @@
 -- For which causes a step halts a machine
-use Rattle.std.specs.Prelude.{◌≡◌, ℕ, ◌+◌, ◌≤◌, Option, Some, None}
+use Rattle.std.specs.Prelude.{◌≡◌, ℕ, ◌+◌, ◌≤◌, Some, None}
 use Rattle.qm_denot.specs.Stores.{Store}
 use Rattle.qm_proto.specs.declared.Cause.{Cause}
 use Rattle.qm_proto.specs.declared.Event.TheVariants as event

@@ -1,13 +1,10 @@
 -- What a try of an event comes to
-use Rattle.std.specs.Prelude.{◌≡◌, ℕ, ◌+◌, ◌<◌, Bool, true, false, ◌&&◌, List, [], ◌∷◌, Option, Some, None, Result, MatchResult, length, count_by, ◌++◌}
+use Rattle.std.specs.Prelude.{◌≡◌, ℕ, ◌+◌, Bool, true, false, ◌&&◌, List, [], ◌∷◌, Option, Some, None, Result, MatchResult, length, count_by, ◌++◌}
 use Rattle.qm_denot.specs.Circuits.{Circuit}
 use Rattle.qm_denot.specs.declared.Letter.TheVariants.{Had}
 use Rattle.qm_denot.specs.Stores.{Store, StandsFor, MayGrow, Overflows}
 use Rattle.qm_instr.specs.Programs.{Programs}
-use Rattle.qm_check.specs.Checks.{IsReady}
 use Rattle.qm_proto.specs.declared.Cause.{Cause}
-use Rattle.qm_proto.specs.declared.Rule.{Rule}
-use Rattle.qm_proto.specs.declared.Rule.TheVariants.{Always, PairRoom, Engaged, Filled}
 use Rattle.qm_proto.specs.declared.Act.{Act}
 use Rattle.qm_proto.specs.declared.Act.TheVariants.{Twin, Apply}
 use Rattle.qm_proto.specs.declared.Few.{Few}
@@ -19,7 +16,7 @@ use Rattle.qm_proto.specs.declared.Row.{Row}
 use Rattle.qm_proto.specs.Model.Rows.{letter_checks}
 use Rattle.qm_proto.specs.Model.Runs.{FirstFails, NoneFails, next_tables, next_letters}
 use Rattle.qm_proto.specs.Model.May.{AllMayCheck}
-use Rattle.qm_machine.specs.Facts.{Facts, Can, Did, IsSound, is_pauli, sizes_of}
+use Rattle.qm_machine.specs.Facts.{Facts, Can, Did, IsSound, is_pauli}
 
 -- no test fails, for whichever circuit the store stands
 abbrev pub Passes : Facts → List Check → Type 0
@@ -111,35 +108,3 @@ pub record Advanced (p : Programs) (f : Facts) (r : ℕ) (g : Facts) : Type 0 wh
   pub ranks : g.ranks ≡ f.ranks
   pub letters : g.letters ≡ f.letters + length (next_letters p f.tables r)
   pub paulis : g.paulis ≡ f.paulis + count_by is_pauli (next_letters p f.tables r)
-
--- the rank whose buffer or place a rule asks about is below n
-abbrev pub IsRuleKnown : ℕ → Rule → Type 0
-IsRuleKnown n Always = Unit {0}
-IsRuleKnown n (PairRoom a) = a.to < n
-IsRuleKnown n (Engaged a) = a.to < n
-IsRuleKnown n (Filled a) = Unit {0}
-
--- ---- what is read of programs and a body
--- r is one of the programs' ranks, of which the body has as many
-pub record IsRank (p : Programs) (f : Facts) (r : ℕ) : Type 0 where
-  pub known : r < length p.ranks
-  pub same : f.ranks ≡ length p.ranks
-
--- the programs are ready, and the body has as many ranks, with buffers of their sizes
-pub record AreRanks (p : Programs) (f : Facts) : Type 0 where
-  pub ready : IsReady p
-  pub same : f.ranks ≡ length p.ranks
-  pub sizes : f.sizes ≡ sizes_of p
-
--- r is one of the ranks of ready programs, of which the body has as many, with buffers of their sizes
-pub record IsReadyRank (p : Programs) (f : Facts) (r : ℕ) : Type 0 where
-  pub ready : IsReady p
-  pub known : r < length p.ranks
-  pub same : f.ranks ≡ length p.ranks
-  pub sizes : f.sizes ≡ sizes_of p
-
--- the rank that a rule asks about is one of the programs', of which the body has as many, with buffers of their sizes
-pub record IsRuleRead (p : Programs) (f : Facts) (rule : Rule) : Type 0 where
-  pub known : IsRuleKnown (length p.ranks) rule
-  pub same : f.ranks ≡ length p.ranks
-  pub sizes : f.sizes ≡ sizes_of p

@@ -1,5 +1,5 @@
 -- What the parts of a machine mean
-use Rattle.std.specs.Prelude.{ℕ, ◌+◌, ◌*◌, Bool, List, [], ◌∷◌, Option, Some, None, map, slice_get, length, if◌then◌else◌}
+use Rattle.std.specs.Prelude.{◌≡◌, ℕ, Bool, List, [], ◌∷◌, Option, Some, None, map, slice_get, length}
 use Rattle.qm_denot.specs.declared.Wire.{Wire}
 use Rattle.qm_denot.specs.Wires.{Wires}
 use Rattle.qm_denot.specs.WireLists.{wires_of}
@@ -17,6 +17,7 @@ use Rattle.qm_proto.specs.Model.State.{Part, Tables, with_lane}
 use Rattle.qm_proto.specs.declared.Act.{Act}
 use Rattle.qm_proto.specs.Model.Schedules.{part_at_start}
 use Rattle.qm_machine.specs.declared.body.Body.{Body}
+use Rattle.qm_machine.specs.declared.books.Books.{Books}
 use Rattle.qm_machine.specs.declared.rank.Rank.{Rank}
 use Rattle.qm_machine.specs.Facts.{Facts, Can, Did}
 
@@ -47,11 +48,6 @@ part_in (Some x) = part_of x
 -- a rank of a list
 abbrev pub part_at : List Rank → ℕ → Part
 part_at ranks r = part_in (slice_get ranks r)
-
--- the number whose binary digits are the bits, the lowest first
-abbrev pub number_of_bits : List Bool → ℕ
-number_of_bits [] = 0
-number_of_bits (b ∷ bs) = (if b then 1 else 0) + 2 * number_of_bits bs
 
 -- ---- the places
 -- the wire in a rank's slot
@@ -88,7 +84,7 @@ mail_of m = record { lanes = λ a. parcels_on m a; parcels = λ a. sends_on m a 
 abbrev pub with_mail : MailView → Lane → List Parcel → MailView
 with_mail m a xs = record m { lanes = with_lane m.lanes a xs }
 
--- ---- the body
+-- ---- the books
 -- the tables that ranks, places, buffers and mail mean
 abbrev pub tables_of : List Rank → List (Wire × Place) → List Buffer → MailView → Tables
 tables_of ranks placed buffers m =
@@ -101,23 +97,46 @@ tables_of ranks placed buffers m =
       lanes = m.lanes;
     }
 
+unfoldable pub tables : Books → Tables
+tables b = tables_of b.ranks.items b.places.placed b.halves (mail_of b.mail)
+
+-- how many ranks there are
+abbrev pub rank_count : Books → ℕ
+rank_count b = length b.ranks.items
+
+-- the sizes of their buffers
+abbrev pub sizes : Books → List ℕ
+sizes b = sizes_in b.halves
+
+-- ---- the body
 -- what a body means, by what its store contains
-unfoldable pub facts : {A : Type 0} → (A → Store) → Body A → Facts
+abbrev pub facts : {A : Type 0} → (A → Store) → Body A → Facts
 facts store b =
     record {
-      tables = tables_of b.ranks.items b.places.placed b.halves (mail_of b.mail);
+      tables = tables b.books;
       store = store b.amps;
-      places = b.places;
-      sizes = sizes_in b.halves;
-      parcels = (mail_of b.mail).parcels;
-      ranks = length b.ranks.items;
+      places = b.books.places;
+      sizes = sizes b.books;
+      parcels = λ a. sends_on b.books.mail a;
+      ranks = rank_count b.books;
       letters = b.letters;
       paulis = b.paulis;
     }
 
--- rank r may do an act on a body, and has done it
+-- rank r may do acts on a body, and has done them
+abbrev pub MayDo : {A : Type 0} → (A → Store) → Body A → ℕ → List Act → Type 0
+MayDo store b r acts = Can (facts store b) r acts
+
+abbrev pub HasDone : {A : Type 0} → (A → Store) → Body A → ℕ → List Act → Body A → Type 0
+HasDone store b r acts d = Did (facts store b) r acts (facts store d)
+
+-- and the same of one act
 abbrev pub MayAct : {A : Type 0} → (A → Store) → Body A → ℕ → Act → Type 0
-MayAct store b r act = Can (facts store b) r (act ∷ [])
+MayAct store b r act = MayDo store b r (act ∷ [])
 
 abbrev pub Acted : {A : Type 0} → (A → Store) → Body A → ℕ → Act → Body A → Type 0
-Acted store b r act d = Did (facts store b) r (act ∷ []) (facts store d)
+Acted store b r act d = HasDone store b r (act ∷ []) d
+
+-- a body that means the same
+abbrev pub IsUnchanged : {A : Type 0} → (A → Store) → Body A → Body A → Type 0
+IsUnchanged store b d = facts store d ≡ facts store b

@@ -3,9 +3,9 @@ ghost use Rattle.std.specs.Prelude.{◌≡◌, ◌↔◌, [], ◌∷◌, true, O
 ghost use Rattle.qm_denot.specs.Stores.{MayGrow};
 ghost use Rattle.qm_proto.specs.Model.Acts.{list_of};
 ghost use Rattle.qm_proto.specs.Model.May.{MayCheck, AllMayCheck};
-ghost use Rattle.qm_machine.specs.Facts.{Can, Did, IsSound};
+ghost use Rattle.qm_machine.specs.Facts.{IsSound};
 ghost use Rattle.qm_machine.specs.Tries.{CanTry, Tried, Asked, asked, is_sure, are_sure, MayGrowBy, AllOverflow};
-ghost use Rattle.qm_machine.specs.Views.{facts};
+ghost use Rattle.qm_machine.specs.Views.{facts, tables, MayAct, Acted, MayDo, HasDone, IsUnchanged};
 
 use crate::body::Body;
 use crate::rules::unless;
@@ -16,7 +16,7 @@ use qm_proto::{Act, Cause, Check, Few, Row};
 fn failing<A: Amps>(body: &Body<A>, check: Check) -> Option<Cause>
     requires able { A.able }
     requires sound { IsSound (facts A.store body.now) }
-    requires may { MayCheck (facts A.store body.now).tables check }
+    requires may { MayCheck (tables body.now.books) check }
     ensures { Asked (facts A.store body.now) (asked (check ∷ [])) result }
 {
     match check {
@@ -31,7 +31,7 @@ fn failing<A: Amps>(body: &Body<A>, check: Check) -> Option<Cause>
 fn first_failing<A: Amps>(body: &Body<A>, checks: Few<Check>) -> Option<Cause>
     requires able { A.able }
     requires sound { IsSound (facts A.store body.now) }
-    requires may { AllMayCheck (facts A.store body.now).tables (list_of checks) }
+    requires may { AllMayCheck (tables body.now.books) (list_of checks) }
     ensures { Asked (facts A.store body.now) (asked (list_of checks)) result }
 {
     match checks {
@@ -54,10 +54,10 @@ fn first_failing<A: Amps>(body: &Body<A>, checks: Few<Check>) -> Option<Cause>
 /// Does an act that is never refused.
 fn do_sure<A: Amps>(body: &mut Body<A>, rank: u16, act: Act)
     requires able { A.able }
-    requires can { Can (facts A.store body.old) rank (act ∷ []) }
-    requires grow { MayGrowBy act (facts A.store body.old).store }
+    requires can { MayAct A.store body.old rank act }
+    requires grow { MayGrowBy act (A.store body.old.amps) }
     requires sure { is_sure act ≡ true }
-    ensures { Did (facts A.store body.old) rank (act ∷ []) (facts A.store body.new) }
+    ensures { Acted A.store body.old rank act body.new }
 {
     match body.act(rank, act) {
         Ok(()) => {}
@@ -69,12 +69,12 @@ fn do_sure<A: Amps>(body: &mut Body<A>, rank: u16, act: Act)
 /// changed then.
 fn do_acts<A: Amps>(body: &mut Body<A>, rank: u16, acts: Few<Act>) -> Result<(), Overflow>
     requires able { A.able }
-    requires can { Can (facts A.store body.old) rank (list_of acts) }
+    requires can { MayDo A.store body.old rank (list_of acts) }
     requires sure { are_sure acts ≡ true }
-    requires grow { MayGrow (facts A.store body.old).store }
-    ensures ok { OnOk result (Did (facts A.store body.old) rank (list_of acts) (facts A.store body.new)) }
-    ensures overflow { IsErr result ↔ AllOverflow (list_of acts) (facts A.store body.old).store }
-    ensures err { OnErr result (facts A.store body.new ≡ facts A.store body.old) }
+    requires grow { MayGrow (A.store body.old.amps) }
+    ensures ok { OnOk result (HasDone A.store body.old rank (list_of acts) body.new) }
+    ensures overflow { IsErr result ↔ AllOverflow (list_of acts) (A.store body.old.amps) }
+    ensures err { OnErr result (IsUnchanged A.store body.old body.new) }
 {
     match acts {
         Few::Empty => Ok(()),

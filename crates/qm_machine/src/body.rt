@@ -1,15 +1,15 @@
-//! The body of a machine: its ranks, places, buffers, mail and store, and one method for each act.
-ghost use Rattle.std.specs.Prelude.{◌≡◌, ℕ, ◌<◌, ◌≤◌, ◌+◌, ◌^◌, ◌↔◌, true, ◌||◌, [], ◌∷◌, ◌++◌, length, OnOk, OnErr, IsErr, IfOk, nat_eq, nat_lt};
+//! The body of a machine: its books and its store, and one method for each act.
+ghost use Rattle.std.specs.Prelude.{◌≡◌, ℕ, ◌<◌, ◌+◌, ◌^◌, ◌↔◌, true, [], ◌∷◌, ◌++◌, length, OnOk, OnErr, IsErr, IfOk};
 ghost use Rattle.qm_denot.specs.Circuits.{Circuit};
 ghost use Rattle.qm_denot.specs.Parcels.{IsFillable};
 ghost use Rattle.qm_denot.specs.Stores.{StandsFor, Overflows, MayGrow, MayApply, live_after};
 ghost use Rattle.qm_instr.specs.Programs.{IsInRange};
-ghost use Rattle.qm_proto.specs.Model.State.{far_made, near_last, bit_of, own_next, protocol_next, front};
+ghost use Rattle.qm_mail.specs.Mails.{sends_on};
 ghost use Rattle.qm_proto.specs.declared.Act.TheVariants.{Fresh, Twin, Apply, SlotOut, NearOut, FarOut, Settle, Posts, Fills, Receives, OwnUsed, ProtocolUsed, FirstKept, BitSet};
-ghost use Rattle.qm_proto.specs.Model.Runs.{halves};
-ghost use Rattle.qm_machine.specs.Facts.{moved, is_pauli, size_at, sizes_of, IsAtStart};
+ghost use Rattle.qm_machine.specs.Facts.{moved, is_pauli, sizes_of, IsAtStart};
 ghost use Rattle.qm_machine.specs.Tries.{MayGrowBy, AllOverflow};
 
+use crate::books::Books;
 use crate::rank::Rank;
 use qm_buffers::Halves;
 use qm_check::Ready;
@@ -20,19 +20,10 @@ use qm_owner::{Place, Places};
 use qm_proto::{Act, Parcel};
 use std::alloc::{AllocError, Global};
 
-/// What stands for the front of an empty lane.
-const NO_PARCEL: Parcel = Parcel {
-    wire: None,
-    bits: None,
-};
-
-/// Ranks, the places of their wires, how many halves each holds, mail and store.
+/// Books and store, and how many letters were done.
 #[derive(Drop)]
 pub(crate) struct Body<A: Amps> {
-    ranks: Vec<Rank>,
-    places: Places,
-    halves: Halves,
-    mail: Mail,
+    pub(crate) books: Books,
     amps: A,
     letters: u64,
     paulis: u64,
@@ -57,7 +48,7 @@ fn buffer_sizes(alloc: Global, input: &Input) -> Result<Vec<u8>, AllocError>
 }
 
 impl<A: Amps> Body<A> {
-    ghost use Rattle.qm_machine.specs.Views.{facts, MayAct, Acted, part_of, number_of_bits};
+    ghost use Rattle.qm_machine.specs.Views.{facts, tables, rank_count, MayAct, Acted, IsUnchanged};
 
     /// The body of ready programs before their first event. All its memory is taken here; `AllocError` comes from the allocator alone.
     pub(crate) fn start(alloc: Global, ready: &Ready, amps: A) -> Result<Body<A>, AllocError>
@@ -73,10 +64,12 @@ impl<A: Amps> Body<A> {
         }
         let sizes = buffer_sizes(alloc, input)?;
         Ok(Body {
-            ranks,
-            places: Places::start(alloc, input.ranks(), ready.capacity())?,
-            halves: Halves::start(&sizes),
-            mail: Mail::start(alloc, ready.lanes())?,
+            books: Books {
+                ranks,
+                places: Places::start(alloc, input.ranks(), ready.capacity())?,
+                halves: Halves::start(&sizes),
+                mail: Mail::start(alloc, ready.lanes())?,
+            },
             amps,
             letters: 0,
             paulis: 0,
@@ -84,7 +77,6 @@ impl<A: Amps> Body<A> {
     }
 
     /// The store.
-    #[tactic(auto, unfolding(crate::specs::Views::facts))]
     pub(crate) fn amps(&self) -> &A
         ensures { result.now ≡ self.now.amps }
     {
@@ -92,160 +84,17 @@ impl<A: Amps> Body<A> {
     }
 
     /// How many letters were done.
-    #[tactic(auto, unfolding(crate::specs::Views::facts))]
     pub(crate) fn letters(&self) -> u64
-        ensures { result ≡ (facts A.store self.now).letters }
+        ensures { result ≡ self.now.letters }
     {
         self.letters
     }
 
     /// How many of them were corrections.
-    #[tactic(auto, unfolding(crate::specs::Views::facts))]
     pub(crate) fn paulis(&self) -> u64
-        ensures { result ≡ (facts A.store self.now).paulis }
+        ensures { result ≡ self.now.paulis }
     {
         self.paulis
-    }
-
-    /// A rank.
-    fn rank(&self, rank: u16) -> &Rank
-        requires { rank < (facts A.store self.now).ranks }
-        ensures { part_of result.now ≡ (facts A.store self.now).tables.parts rank }
-    {
-        &self.ranks[usize::from(rank)]
-    }
-
-    /// The number of a rank's next instruction.
-    pub(crate) fn at(&self, rank: u16) -> u32
-        requires { rank < (facts A.store self.now).ranks }
-        ensures { result ≡ ((facts A.store self.now).tables.parts rank).at }
-    {
-        self.rank(rank).at()
-    }
-
-    /// How many events of that instruction it has had.
-    pub(crate) fn stage(&self, rank: u16) -> u32
-        requires { rank < (facts A.store self.now).ranks }
-        ensures { result ≡ ((facts A.store self.now).tables.parts rank).stage }
-    {
-        self.rank(rank).stage()
-    }
-
-    /// The parcel that a rank took last.
-    pub(crate) fn taken(&self, rank: u16) -> Parcel
-        requires { rank < (facts A.store self.now).ranks }
-        ensures { result ≡ ((facts A.store self.now).tables.parts rank).taken }
-    {
-        self.rank(rank).taken()
-    }
-
-    /// The first outcome of a move that a rank is doing.
-    pub(crate) fn first(&self, rank: u16) -> bool
-        requires { rank < (facts A.store self.now).ranks }
-        ensures { result ≡ ((facts A.store self.now).tables.parts rank).first }
-    {
-        self.rank(rank).first()
-    }
-
-    /// A bit of a rank; false where there is none.
-    pub(crate) fn bit(&self, rank: u16, b: u8) -> bool
-        requires { rank < (facts A.store self.now).ranks }
-        ensures { result ≡ bit_of (facts A.store self.now).tables rank b }
-    {
-        self.rank(rank).bit(b)
-    }
-
-    /// The next outcome of a rank's own tape; false where none is left.
-    pub(crate) fn own_next(&self, rank: u16) -> bool
-        requires { rank < (facts A.store self.now).ranks }
-        ensures { result ≡ own_next (facts A.store self.now).tables rank }
-    {
-        self.rank(rank).own_next()
-    }
-
-    /// The next outcome of a rank's protocol tape; false where none is left.
-    pub(crate) fn protocol_next(&self, rank: u16) -> bool
-        requires { rank < (facts A.store self.now).ranks }
-        ensures { result ≡ protocol_next (facts A.store self.now).tables rank }
-    {
-        self.rank(rank).protocol_next()
-    }
-
-    /// The wire that a rank's count names: a qubit or a far half.
-    pub(crate) fn far_made(&self, rank: u16) -> Wire
-        requires { rank < (facts A.store self.now).ranks }
-        ensures { result ≡ far_made (facts A.store self.now).tables rank }
-    {
-        Wire {
-            rank,
-            made: self.rank(rank).made(),
-            near: false,
-        }
-    }
-
-    /// The near half that a rank made last.
-    pub(crate) fn near_last(&self, rank: u16) -> Wire
-        requires { rank < (facts A.store self.now).ranks }
-        ensures { result ≡ near_last (facts A.store self.now).tables rank }
-    {
-        Wire {
-            rank,
-            made: self.rank(rank).made().saturating_sub(1),
-            near: true,
-        }
-    }
-
-    /// The wire in a rank's slot, where it is full.
-    #[tactic(auto, unfolding(crate::specs::Views::facts))]
-    pub(crate) fn slot(&self, rank: u16, q: u8) -> Option<Wire>
-        ensures { result ≡ (facts A.store self.now).tables.slots rank q }
-    {
-        self.places.slot(rank, q)
-    }
-
-    /// How many halves a rank holds, at most the size of its buffer.
-    pub(crate) fn halves(&self, rank: u16) -> u32
-        requires { rank < length (facts A.store self.now).sizes }
-        ensures count { result ≡ halves (facts A.store self.now).tables rank }
-        ensures within { result ≤ size_at (facts A.store self.now).sizes rank }
-    {
-        self.halves.halves(rank)
-    }
-
-    /// Whether a pair may be prepared for a receiver: where its half is wanted, or where one half more leaves the receiver's buffer
-    /// another place.
-    pub(crate) fn may_pair(&self, to: u16, wanted: bool) -> bool
-        requires { to < length (facts A.store self.now).sizes }
-        ensures { let f = facts A.store self.now in result ≡ (nat_lt (halves f.tables to + 1) (size_at f.sizes to) || wanted) }
-    {
-        self.halves.may_pair(to, wanted)
-    }
-
-    /// A rank's classical bits as a number, bit 0 the lowest.
-    pub(crate) fn bits(&self, rank: u16) -> u32
-        requires { rank < (facts A.store self.now).ranks }
-        ensures { result ≡ number_of_bits ((facts A.store self.now).tables.parts rank).bits }
-    {
-        self.rank(rank).bits()
-    }
-
-    /// Whether a lane has no parcel.
-    #[tactic(auto, unfolding(crate::specs::Views::facts))]
-    pub(crate) fn is_empty(&self, lane: Lane) -> bool
-        ensures { result ≡ nat_eq (length ((facts A.store self.now).tables.lanes lane)) 0 }
-    {
-        self.mail.is_empty(lane)
-    }
-
-    /// A lane's front parcel; one without wire and bits where it has none.
-    #[tactic(auto, unfolding(crate::specs::Views::facts))]
-    pub(crate) fn front(&self, lane: Lane) -> Parcel
-        ensures { result ≡ front (facts A.store self.now).tables lane }
-    {
-        match self.mail.front(lane) {
-            Some(parcel) => parcel,
-            None => NO_PARCEL,
-        }
     }
 
     /// Puts a fresh wire into a rank's slot.
@@ -254,27 +103,27 @@ impl<A: Amps> Body<A> {
         requires can { MayAct A.store self.old rank (Fresh q) }
         ensures { Acted A.store self.old rank (Fresh q) self.new }
     {
-        let w = self.far_made(rank);
+        let w = self.books.far_made(rank);
         self.amps.fresh(w);
-        self.places.put(w, Place::Slot { rank, q });
-        self.ranks[usize::from(rank)].count_wire();
+        self.books.places.put(w, Place::Slot { rank, q });
+        self.books.ranks[usize::from(rank)].count_wire();
     }
 
     /// Prepares an EPR pair: the near half at a rank, the far half at another.
     fn twin(&mut self, rank: u16, to: u16)
         requires able { A.able }
         requires can { MayAct A.store self.old rank (Twin to) }
-        requires grow { MayGrow (facts A.store self.old).store }
+        requires grow { MayGrow (A.store self.old.amps) }
         ensures { Acted A.store self.old rank (Twin to) self.new }
     {
-        let f = self.far_made(rank);
+        let f = self.books.far_made(rank);
         let e = Wire { near: true, ..f };
         do_letter(&mut self.amps, Letter::Pair { a: e, b: f });
-        self.places.put(e, Place::Near { rank });
-        self.places.put(f, Place::Far { rank: to });
-        self.halves.add(rank);
-        self.halves.add(to);
-        self.ranks[usize::from(rank)].count_wire();
+        self.books.places.put(e, Place::Near { rank });
+        self.books.places.put(f, Place::Far { rank: to });
+        self.books.halves.add(rank);
+        self.books.halves.add(to);
+        self.books.ranks[usize::from(rank)].count_wire();
         self.letters += 1;
     }
 
@@ -282,10 +131,10 @@ impl<A: Amps> Body<A> {
     fn letter(&mut self, rank: u16, letter: Letter) -> Result<(), Overflow>
         requires able { A.able }
         requires can { MayAct A.store self.old rank (Apply letter) }
-        requires grow { MayGrowBy (Apply letter) (facts A.store self.old).store }
+        requires grow { MayGrowBy (Apply letter) (A.store self.old.amps) }
         ensures ok { OnOk result (Acted A.store self.old rank (Apply letter) self.new) }
-        ensures overflow { IsErr result ↔ Overflows letter (facts A.store self.old).store }
-        ensures err { OnErr result (facts A.store self.new ≡ facts A.store self.old) }
+        ensures overflow { IsErr result ↔ Overflows letter (A.store self.old.amps) }
+        ensures err { OnErr result (IsUnchanged A.store self.old self.new) }
     {
         match self.amps.apply(letter) {
             Ok(()) => {
@@ -303,10 +152,10 @@ impl<A: Amps> Body<A> {
         requires can { MayAct A.store self.old rank (NearOut m) }
         ensures { Acted A.store self.old rank (NearOut m) self.new }
     {
-        let w = self.near_last(rank);
+        let w = self.books.near_last(rank);
         do_letter(&mut self.amps, Letter::Take { w, m });
-        self.places.take(w);
-        self.halves.drop_half(rank);
+        self.books.places.take(w);
+        self.books.halves.drop_half(rank);
         self.letters += 1;
     }
 
@@ -316,9 +165,9 @@ impl<A: Amps> Body<A> {
         requires can { MayAct A.store self.old rank (SlotOut q m) }
         ensures { Acted A.store self.old rank (SlotOut q m) self.new }
     {
-        if let Some(w) = self.slot(rank, q) {
+        if let Some(w) = self.books.slot(rank, q) {
             do_letter(&mut self.amps, Letter::Take { w, m });
-            self.places.take(w);
+            self.books.places.take(w);
             self.letters += 1;
         }
     }
@@ -330,8 +179,8 @@ impl<A: Amps> Body<A> {
         ensures { Acted A.store self.old rank (FarOut f m) self.new }
     {
         do_letter(&mut self.amps, Letter::Take { w: f, m });
-        self.places.take(f);
-        self.halves.drop_half(rank);
+        self.books.places.take(f);
+        self.books.halves.drop_half(rank);
         self.letters += 1;
     }
 
@@ -340,24 +189,26 @@ impl<A: Amps> Body<A> {
         requires { MayAct A.store self.old rank (Settle f q) }
         ensures { Acted A.store self.old rank (Settle f q) self.new }
     {
-        self.places.shift(f, Place::Slot { rank, q });
-        self.halves.drop_half(rank);
+        self.books.places.shift(f, Place::Slot { rank, q });
+        self.books.halves.drop_half(rank);
     }
 
     /// Puts a parcel at a lane's end.
     fn post(&mut self, lane: Lane, parcel: Parcel)
-        requires { let f = facts A.store self.old in length (f.tables.lanes lane) < f.parcels lane }
-        ensures { let a = Posts lane parcel in (r : ℕ) → MayAct A.store self.old r a → Acted A.store self.old r a self.new }
+        requires { length ((tables self.old.books).lanes lane) < sends_on self.old.books.mail lane }
+        ensures { let a = Posts lane parcel in
+            (r : ℕ) → MayAct A.store self.old r a → Acted A.store self.old r a self.new }
     {
-        self.mail.post(lane, parcel);
+        self.books.mail.post(lane, parcel);
     }
 
     /// Gives a lane's last parcel its bits.
     fn fill(&mut self, lane: Lane, bits: (bool, bool))
-        requires { IsFillable ((facts A.store self.old).tables.lanes lane) }
-        ensures { let a = Fills lane bits in (r : ℕ) → MayAct A.store self.old r a → Acted A.store self.old r a self.new }
+        requires { IsFillable ((tables self.old.books).lanes lane) }
+        ensures { let a = Fills lane bits in
+            (r : ℕ) → MayAct A.store self.old r a → Acted A.store self.old r a self.new }
     {
-        self.mail.fill(lane, bits);
+        self.books.mail.fill(lane, bits);
     }
 
     /// Takes a lane's front parcel, which the rank keeps.
@@ -365,8 +216,8 @@ impl<A: Amps> Body<A> {
         requires { MayAct A.store self.old rank (Receives lane) }
         ensures { Acted A.store self.old rank (Receives lane) self.new }
     {
-        let parcel = self.mail.take(lane);
-        self.ranks[usize::from(rank)].receive(parcel);
+        let parcel = self.books.mail.take(lane);
+        self.books.ranks[usize::from(rank)].receive(parcel);
     }
 
     /// Uses the next outcome of a rank's protocol tape.
@@ -374,7 +225,7 @@ impl<A: Amps> Body<A> {
         requires { MayAct A.store self.old rank ProtocolUsed }
         ensures { Acted A.store self.old rank ProtocolUsed self.new }
     {
-        self.ranks[usize::from(rank)].use_protocol();
+        self.books.ranks[usize::from(rank)].use_protocol();
     }
 
     /// Uses the next outcome of a rank's own tape.
@@ -382,7 +233,7 @@ impl<A: Amps> Body<A> {
         requires { MayAct A.store self.old rank OwnUsed }
         ensures { Acted A.store self.old rank OwnUsed self.new }
     {
-        self.ranks[usize::from(rank)].use_own();
+        self.books.ranks[usize::from(rank)].use_own();
     }
 
     /// Keeps the first outcome of a rank's move.
@@ -390,7 +241,7 @@ impl<A: Amps> Body<A> {
         requires { MayAct A.store self.old rank (FirstKept m) }
         ensures { Acted A.store self.old rank (FirstKept m) self.new }
     {
-        self.ranks[usize::from(rank)].keep_first(m);
+        self.books.ranks[usize::from(rank)].keep_first(m);
     }
 
     /// Sets a rank's bit.
@@ -398,17 +249,17 @@ impl<A: Amps> Body<A> {
         requires { MayAct A.store self.old rank (BitSet b v) }
         ensures { Acted A.store self.old rank (BitSet b v) self.new }
     {
-        self.ranks[usize::from(rank)].set_bit(b, v);
+        self.books.ranks[usize::from(rank)].set_bit(b, v);
     }
 
     /// Does an act. `Overflow` comes exactly where it is a `Had` that leaves the range; nothing is changed then.
     pub(crate) fn act(&mut self, rank: u16, act: Act) -> Result<(), Overflow>
         requires able { A.able }
         requires can { MayAct A.store self.old rank act }
-        requires grow { MayGrowBy act (facts A.store self.old).store }
+        requires grow { MayGrowBy act (A.store self.old.amps) }
         ensures ok { OnOk result (Acted A.store self.old rank act self.new) }
-        ensures overflow { IsErr result ↔ AllOverflow (act ∷ []) (facts A.store self.old).store }
-        ensures err { OnErr result (facts A.store self.new ≡ facts A.store self.old) }
+        ensures overflow { IsErr result ↔ AllOverflow (act ∷ []) (A.store self.old.amps) }
+        ensures err { OnErr result (IsUnchanged A.store self.old self.new) }
     {
         match act {
             Act::Apply { letter } => return self.letter(rank, letter),
@@ -431,12 +282,12 @@ impl<A: Amps> Body<A> {
 
     /// A rank goes on to the next event of its instruction, which has so many.
     pub(crate) fn move_on(&mut self, rank: u16, events: u32)
-        requires known { rank < (facts A.store self.old).ranks }
-        requires at { ((facts A.store self.old).tables.parts rank).at + 1 < 2 ^ 32 }
-        requires stage { ((facts A.store self.old).tables.parts rank).stage + 1 < 2 ^ 32 }
+        requires known { rank < rank_count self.old.books }
+        requires at { ((tables self.old.books).parts rank).at + 1 < 2 ^ 32 }
+        requires stage { ((tables self.old.books).parts rank).stage + 1 < 2 ^ 32 }
         ensures { facts A.store self.new ≡ moved (facts A.store self.old) rank events }
     {
-        self.ranks[usize::from(rank)].move_on(events);
+        self.books.ranks[usize::from(rank)].move_on(events);
     }
 }
 
@@ -445,7 +296,8 @@ fn do_letter<A: Amps>(amps: &mut A, letter: Letter)
     requires able { A.able }
     requires may { MayApply letter (A.store amps.old) }
     requires never { ¬ (Overflows letter (A.store amps.old)) }
-    ensures stands { (c : Circuit) → StandsFor (A.store amps.old) c → StandsFor (A.store amps.new) (c ++ letter ∷ []) }
+    ensures stands { (c : Circuit) → StandsFor (A.store amps.old) c
+        → StandsFor (A.store amps.new) (c ++ letter ∷ []) }
     ensures live { (A.store amps.new).live ≡ live_after letter (A.store amps.old).live }
     ensures capacity { (A.store amps.new).capacity ≡ (A.store amps.old).capacity }
 {

@@ -272,6 +272,12 @@ pub(crate) fn halts(rt: &impl Abort, alloc: Global, input: Input, halt: Halt) ->
     Ok(())
 }
 
+/// How many wires are live in a machine's store, and its exponent.
+pub(crate) fn extent<A: Amps>(machine: &Machine<A>) -> (usize, u64) {
+    let amps = machine.amps();
+    (amps.live().len(), amps.exponent())
+}
+
 /// Whether the wire is live.
 fn is_live<A: Amps>(amps: &A, w: Wire) -> bool
     ensures { IsTrue result ↔ Contains (A.store amps.now).live w }

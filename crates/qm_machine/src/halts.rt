@@ -1,8 +1,8 @@
 //! Machines that halt, and that stay so. Where and why was worked out elsewhere.
 use crate::fixtures::{NARROW, SMALL, Sizes, did, follow, halts, machine_of, programs, push_all};
 use crate::instructions::{
-    ALLOC, ALLOC_NEXT, COPY_FROM, COPY_NEXT_FROM, COPY_TO, CROSS, FLIP, FREE, FREE_NEXT, HAD, TURN,
-    UNDO_FROM, UNDO_TO,
+    ALLOC, ALLOC_NEXT, COPY_BACK, COPY_BACK_FROM, COPY_BACK_NEXT_FROM, COPY_FROM, COPY_NEXT_FROM,
+    COPY_TO, CROSS, FLIP, FREE, FREE_NEXT, HAD, TURN, UNDO_FROM, UNDO_TO,
 };
 use crate::{Cause, Halt, State, Step};
 use qm_instr::Instr;
@@ -80,23 +80,11 @@ fn a_qubit_that_may_be_one_is_not_given_up(rt: HostRuntime) -> Result<(), Fail> 
     Ok(())
 }
 
-const COPY_BACK: Instr = Instr::CopyTo {
-    q: 0,
-    to: 0,
-    tag: 7,
-};
-
-const COPY_COMES_BACK: Instr = Instr::CopyFrom {
-    q: 1,
-    from: 1,
-    tag: 7,
-};
-
 /// Each of two ranks copies before it takes the other's copy.
 const BOTH_COPY: [(u16, Instr); 6] = [
     (0, ALLOC),
     (0, COPY_TO),
-    (0, COPY_COMES_BACK),
+    (0, COPY_BACK_NEXT_FROM),
     (1, ALLOC),
     (1, COPY_BACK),
     (1, COPY_NEXT_FROM),
@@ -118,14 +106,7 @@ fn ranks_without_room_are_stuck(rt: HostRuntime) -> Result<(), Fail> {
 
 /// Each of two ranks waits for the other's copy before it copies.
 const BOTH_WAIT: [(u16, Instr); 4] = [
-    (
-        0,
-        Instr::CopyFrom {
-            q: 0,
-            from: 1,
-            tag: 7,
-        },
-    ),
+    (0, COPY_BACK_FROM),
     (0, COPY_TO),
     (1, COPY_FROM),
     (1, COPY_BACK),

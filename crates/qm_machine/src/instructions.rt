@@ -86,6 +86,24 @@ pub(crate) const COPY_NEXT_FROM: Instr = Instr::CopyFrom {
     tag: 7,
 };
 
+pub(crate) const COPY_BACK: Instr = Instr::CopyTo {
+    q: 0,
+    to: 0,
+    tag: 7,
+};
+
+pub(crate) const COPY_BACK_FROM: Instr = Instr::CopyFrom {
+    q: 0,
+    from: 1,
+    tag: 7,
+};
+
+pub(crate) const COPY_BACK_NEXT_FROM: Instr = Instr::CopyFrom {
+    q: 1,
+    from: 1,
+    tag: 7,
+};
+
 pub(crate) const MOVE_TO: Instr = Instr::MoveTo {
     q: 0,
     to: 1,

@@ -6,9 +6,11 @@
 
 mod attempt;
 mod body;
+mod books;
 mod lines;
 mod machine;
 mod messages;
+mod parcels;
 mod rank;
 mod rows;
 mod rules;

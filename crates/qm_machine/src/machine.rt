@@ -8,7 +8,7 @@ ghost use Rattle.qm_proto.specs.Model.Schedules.{AllEnded, RendezvousEnds};
 ghost use Rattle.qm_machine.specs.Facts.{is_pauli};
 ghost use Rattle.qm_machine.specs.Halting.{HaltsFor, HasSmallExponent, IsAtMeasure};
 ghost use Rattle.qm_machine.specs.Keeps.{Keeps, StepIs, StateIs, HaltsAt, HasLeft, MayGo, MustWait, halt_of, state_of};
-ghost use Rattle.qm_machine.specs.Views.{number_of_bits};
+ghost use Rattle.qm_bits.specs.Numbers.{number_of_bits};
 
 use crate::attempt::attempt;
 use crate::body::Body;
@@ -40,9 +40,15 @@ impl<A: Amps> Model for Machine<A> {
 
     ghost Value = { MachineView A };
 
-    ghost view = { λ m. record { programs = m.ready; schedule = m.schedule.items; halted = m.halted; amps = m.body.amps } };
+    ghost view = { λ m. record {
+      programs = m.ready;
+      schedule = m.schedule.items;
+      halted = m.halted;
+      amps = m.body.amps;
+    } };
 
-    ghost invariant = { λ m. IsKept m.ready m.schedule.items m.halted (facts A.store m.body) (vec_capacity m.schedule) };
+    ghost invariant = { λ m. let room = vec_capacity m.schedule in
+        IsKept m.ready m.schedule.items m.halted (facts A.store m.body) room };
 }
 
 impl<A: Amps> Machine<A> {
@@ -54,7 +60,12 @@ impl<A: Amps> Machine<A> {
         requires stands { StandsFor (A.store amps) [] }
         requires live { (A.store amps).live ≡ [] }
         requires room { capacity_of ready ≤ (A.store amps).capacity }
-        ensures { IfOk result (λ m. m ≡ record { programs = ready; schedule = []; halted = None; amps = amps }) }
+        ensures { IfOk result (λ m. m ≡ record {
+          programs = ready;
+          schedule = [];
+          halted = None;
+          amps = amps;
+        }) }
     {
         let body = Body::start(alloc, &ready, amps)?;
         let schedule = Vec::with_capacity(alloc, ready.events() as usize)?;
@@ -68,9 +79,11 @@ impl<A: Amps> Machine<A> {
 
     /// Keeps a halt of this rank at the schedule's end.
     fn halt(&mut self, rank: u16, cause: Cause) -> Step
-        requires { HaltsAt self.old.programs self.old.schedule (halt_of rank self.old.schedule cause) }
+        requires { let halt = halt_of rank self.old.schedule cause in
+            HaltsAt self.old.programs self.old.schedule halt }
         ensures answer { result ≡ Step.Halted }
-        ensures new { self.new ≡ record self.old { halted = Some (halt_of rank self.old.schedule cause) } }
+        ensures new { let halt = halt_of rank self.old.schedule cause in
+            self.new ≡ record self.old { halted = Some halt } }
     {
         self.halted = Some(Halt {
             rank: u32::from(rank),
@@ -87,10 +100,10 @@ impl<A: Amps> Machine<A> {
         ensures step { StepIs A.store self.old rank result self.new }
     {
         let input = self.ready.input();
-        if any_enabled(input, &self.body) {
+        if any_enabled(input, &self.body.books) {
             return Step::Blocked { why };
         }
-        let lowest = lowest_left(input, &self.body, rank);
+        let lowest = lowest_left(input, &self.body.books, rank);
         self.halt(lowest, Cause::Stuck)
     }
 
@@ -101,7 +114,7 @@ impl<A: Amps> Machine<A> {
         ensures programs { self.new.programs ≡ self.old.programs }
         ensures step { StepIs A.store self.old rank result self.new }
     {
-        let events = events_here(self.ready.input(), &self.body, rank);
+        let events = events_here(self.ready.input(), &self.body.books, rank);
         match attempt(&mut self.body, rank, row) {
             Ok(()) => {
                 self.body.move_on(rank, events);
@@ -126,17 +139,20 @@ impl<A: Amps> Machine<A> {
         requires known { rank < length self.old.programs.ranks }
         ensures programs { self.new.programs ≡ self.old.programs }
         ensures step { StepIs A.store self.old rank result self.new }
-        ensures overflow { HasSmallExponent A.store self.old → ¬ (HaltsFor self.old self.new Cause.Overflow) }
-        ensures impossible { HaltsFor self.old self.new Cause.Impossible → IsAtMeasure self.old rank }
-        ensures stuck { RendezvousEnds self.old.programs → ¬ (HaltsFor self.old self.new Cause.Stuck) }
+        ensures overflow { HasSmallExponent A.store self.old
+            → ¬ (HaltsFor self.old self.new Cause.Overflow) }
+        ensures impossible { HaltsFor self.old self.new Cause.Impossible
+            → IsAtMeasure self.old rank }
+        ensures stuck { RendezvousEnds self.old.programs
+            → ¬ (HaltsFor self.old self.new Cause.Stuck) }
     {
         if self.halted.is_some() {
             return Step::Halted;
         }
         let input = self.ready.input();
-        match row_next(input, &self.body, rank as u16) {
+        match row_next(input, &self.body.books, rank as u16) {
             None => Step::Ended,
-            Some(row) => match lacks(input, &self.body, row.rule) {
+            Some(row) => match lacks(input, &self.body.books, row.rule) {
                 None => self.go(rank as u16, row),
                 Some(why) => self.wait(rank as u16, why),
             },
@@ -150,7 +166,7 @@ impl<A: Amps> Machine<A> {
     {
         let input = self.ready.input();
         for rank in 0..input.ranks() {
-            if has_left(input, &self.body, rank) {
+            if has_left(input, &self.body.books, rank) {
                 return true;
             }
         }
@@ -196,7 +212,7 @@ impl<A: Amps> Machine<A> {
         requires { rank < length self.now.programs.ranks }
         ensures { result ≡ number_of_bits ((state_of self.now).tables.parts rank).bits }
     {
-        self.body.bits(rank as u16)
+        self.body.books.bits(rank as u16)
     }
 
     /// The wire in a rank's slot. `None` exactly where it is empty, as each slot of a rank is that there isn't.
@@ -204,7 +220,7 @@ impl<A: Amps> Machine<A> {
         ensures { result ≡ (state_of self.now).tables.slots rank q }
     {
         if rank < u32::from(self.ready.input().ranks()) {
-            self.body.slot(rank as u16, q)
+            self.body.books.slot(rank as u16, q)
         } else {
             None
         }
@@ -216,7 +232,7 @@ impl<A: Amps> Machine<A> {
         ensures value { result ≡ halves (state_of self.now).tables rank }
         ensures few { result ≤ (rank_of self.now.programs rank).buffer }
     {
-        self.body.halves(rank as u16)
+        self.body.books.halves(rank as u16)
     }
 
     /// How many letters the circuit of the replay has.

@@ -1,10 +1,8 @@
 //! One rank of a machine, but for its wires: how far it is in its program, its bits and its tapes.
+use qm_bits::{BITS, number_of_bits};
 use qm_proto::Parcel;
 use qm_tape::Tape;
 use std::alloc::{AllocError, Global};
-
-/// How many classical bits a rank has.
-const BITS: usize = 32;
 
 /// A rank.
 #[derive(Drop)]
@@ -23,7 +21,8 @@ impl Rank {
     ghost use Rattle.std.specs.Prelude.{◌≡◌, ◌≤◌, ◌<◌, ◌+◌, ◌^◌, length, drop, slice_index_or, slice_set, false, IfOk};
     ghost use Rattle.qm_proto.specs.Model.Acts.{counted};
     ghost use Rattle.qm_proto.specs.Model.Runs.{moved_on};
-    ghost use Rattle.qm_machine.specs.Views.{part_of, part_with, number_of_bits};
+    ghost use Rattle.qm_bits.specs.Numbers.{number_of_bits};
+    ghost use Rattle.qm_machine.specs.Views.{part_of, part_with};
 
     /// A rank before its first event, with these tapes. `AllocError` comes from the allocator alone.
     pub(crate) fn start(alloc: Global, own: &[bool], protocol: &[bool]) -> Result<Rank, AllocError>
@@ -109,11 +108,7 @@ impl Rank {
     pub(crate) fn bits(&self) -> u32
         ensures { result ≡ number_of_bits (part_of self.now).bits }
     {
-        let mut number = 0;
-        for k in 0..BITS {
-            number = 2 * number + u32::from(self.bits[BITS - 1 - k]);
-        }
-        number
+        number_of_bits(&self.bits)
     }
 
     /// Counts a wire, or a pair.
@@ -126,7 +121,8 @@ impl Rank {
 
     /// Keeps the parcel that it takes.
     pub(crate) fn receive(&mut self, parcel: Parcel)
-        ensures { part_of self.new ≡ (let x = part_of self.old in record x { taken = parcel }) }
+        ensures { let x = part_of self.old in
+            part_of self.new ≡ record x { taken = parcel } }
     {
         self.taken = parcel;
     }
@@ -134,7 +130,8 @@ impl Rank {
     /// Uses an outcome of the protocol tape.
     pub(crate) fn use_protocol(&mut self)
         requires { 0 < length (part_of self.old).protocol }
-        ensures { part_of self.new ≡ (let x = part_of self.old in record x { protocol = drop 1 x.protocol }) }
+        ensures { let x = part_of self.old in
+            part_of self.new ≡ record x { protocol = drop 1 x.protocol } }
     {
         self.protocol.next();
     }
@@ -142,14 +139,16 @@ impl Rank {
     /// Uses an outcome of the own tape.
     pub(crate) fn use_own(&mut self)
         requires { 0 < length (part_of self.old).own }
-        ensures { part_of self.new ≡ (let x = part_of self.old in record x { own = drop 1 x.own }) }
+        ensures { let x = part_of self.old in
+            part_of self.new ≡ record x { own = drop 1 x.own } }
     {
         self.own.next();
     }
 
     /// Keeps the first outcome of its move.
     pub(crate) fn keep_first(&mut self, m: bool)
-        ensures { part_of self.new ≡ (let x = part_of self.old in record x { first = m }) }
+        ensures { let x = part_of self.old in
+            part_of self.new ≡ record x { first = m } }
     {
         self.first = m;
     }
@@ -157,7 +156,8 @@ impl Rank {
     /// Sets a bit.
     pub(crate) fn set_bit(&mut self, b: u8, v: bool)
         requires { b < 32 }
-        ensures { part_of self.new ≡ (let x = part_of self.old in record x { bits = slice_set x.bits b v }) }
+        ensures { let x = part_of self.old in
+            part_of self.new ≡ record x { bits = slice_set x.bits b v } }
     {
         self.bits[usize::from(b)] = v;
     }

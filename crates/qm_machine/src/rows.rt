@@ -7,19 +7,17 @@ ghost use Rattle.qm_denot.specs.Protocols.{differing};
 ghost use Rattle.qm_proto.specs.Model.State.{wire_in, bit_of, own_next, front, first_bit};
 ghost use Rattle.qm_proto.specs.Model.Rows.{row, rows, told, letter, letter_checks, one_letter, gate_letter, few_if};
 ghost use Rattle.qm_proto.specs.Model.Runs.{row_next};
-ghost use Rattle.qm_machine.specs.Tries.{IsRank, IsReadyRank};
-ghost use Rattle.qm_machine.specs.Views.{facts};
+ghost use Rattle.qm_machine.specs.Reads.{IsRank, IsReadyRank};
+ghost use Rattle.qm_machine.specs.Views.{tables, rank_count};
 
-use crate::body::Body;
-use crate::lines::{
-    checks_if, first_bit, lane, letter, letter_checks, letter_if, plain, tested, told, waiting,
-    wire_in,
-};
+use crate::books::Books;
+use crate::lines::{checks_if, lane, letter, letter_checks, letter_if, plain, tested, waiting};
 use crate::messages::{
-    copy_from, copy_to, move_from, move_to, reach_from, reach_to, undo_from, undo_to,
+    Message, copy_from, copy_to, move_from, move_to, reach_from, reach_to, undo_from, undo_to,
 };
+use crate::parcels::told;
 use crate::rules::current;
-use qm_denot::{Amps, Letter, Wire};
+use qm_denot::{Letter, Wire};
 use qm_instr::{Gate, Input, Instr, Kind, OneGate};
 use qm_proto::{Act, Check, Event, Few, Row, Rule};
 
@@ -39,48 +37,52 @@ fn one_letter(gate: OneGate, w: Wire) -> Letter
 }
 
 /// The letter of a gate on the slots of a rank.
-fn gate_letter<A: Amps>(body: &Body<A>, rank: u16, gate: Gate) -> Letter
-    requires { rank < (facts A.store body.now).ranks }
-    ensures { result ≡ gate_letter (wire_in (facts A.store body.now).tables rank) gate }
+fn gate_letter(books: &Books, rank: u16, gate: Gate) -> Letter
+    requires { rank < rank_count books.now }
+    ensures { result ≡ gate_letter (wire_in (tables books.now) rank) gate }
 {
     match gate {
-        Gate::One { g, q } => one_letter(g, wire_in(body, rank, q)),
+        Gate::One { g, q } => one_letter(g, books.wire_in(rank, q)),
         Gate::Cx { c, t } => Letter::Cx {
-            c: wire_in(body, rank, c),
-            t: wire_in(body, rank, t),
+            c: books.wire_in(rank, c),
+            t: books.wire_in(rank, t),
         },
         Gate::Cz { c, t } => Letter::Cz {
-            c: wire_in(body, rank, c),
-            t: wire_in(body, rank, t),
+            c: books.wire_in(rank, c),
+            t: books.wire_in(rank, t),
         },
     }
 }
 
 /// A gate.
-fn gate_row<A: Amps>(body: &Body<A>, rank: u16, gate: Gate) -> Row
-    requires { rank < (facts A.store body.now).ranks }
-    ensures { let l = gate_letter (wire_in (facts A.store body.now).tables rank) gate in result ≡ row Event.Gate Rule.Always (letter_checks l) (letter l) }
+fn gate_row(books: &Books, rank: u16, gate: Gate) -> Row
+    requires { rank < rank_count books.now }
+    ensures { let l = gate_letter (wire_in (tables books.now) rank) gate in
+        result ≡ row Event.Gate Rule.Always (letter_checks l) (letter l) }
 {
-    let l = gate_letter(body, rank, gate);
+    let l = gate_letter(books, rank, gate);
     tested(Event::Gate, letter_checks(l), letter(l))
 }
 
 /// A gate where a bit is one.
-fn when_row<A: Amps>(body: &Body<A>, rank: u16, b: u8, gate: Gate) -> Row
-    requires { rank < (facts A.store body.now).ranks }
-    ensures { let l = gate_letter (wire_in (facts A.store body.now).tables rank) gate in let set = bit_of (facts A.store body.now).tables rank b in result ≡ row Event.When Rule.Always (few_if set (letter_checks l)) (few_if set (letter l)) }
+fn when_row(books: &Books, rank: u16, b: u8, gate: Gate) -> Row
+    requires { rank < rank_count books.now }
+    ensures { let l = gate_letter (wire_in (tables books.now) rank) gate in
+        let set = bit_of (tables books.now) rank b in
+        result ≡ row Event.When Rule.Always (few_if set (letter_checks l)) (few_if set (letter l)) }
 {
-    let l = gate_letter(body, rank, gate);
-    let set = body.bit(rank, b);
+    let l = gate_letter(books, rank, gate);
+    let set = books.bit(rank, b);
     tested(Event::When, checks_if(set, l), letter_if(set, l))
 }
 
 /// A qubit that is zero is given up.
-fn free_row<A: Amps>(body: &Body<A>, rank: u16, q: u8) -> Row
-    requires { rank < (facts A.store body.now).ranks }
-    ensures { result ≡ row Event.Free Rule.Always (Few.One (Check.Zero (wire_in (facts A.store body.now).tables rank q))) (Few.One (Act.SlotOut q false)) }
+fn free_row(books: &Books, rank: u16, q: u8) -> Row
+    requires { rank < rank_count books.now }
+    ensures { let checks = Few.One (Check.Zero (wire_in (tables books.now) rank q)) in
+        result ≡ row Event.Free Rule.Always checks (Few.One (Act.SlotOut q false)) }
 {
-    let w = wire_in(body, rank, q);
+    let w = books.wire_in(rank, q);
     tested(
         Event::Free,
         Few::One(Check::Zero { w }),
@@ -89,12 +91,15 @@ fn free_row<A: Amps>(body: &Body<A>, rank: u16, q: u8) -> Row
 }
 
 /// A measurement by the next outcome of the own tape.
-fn measure_row<A: Amps>(body: &Body<A>, rank: u16, q: u8, b: u8) -> Row
-    requires { rank < (facts A.store body.now).ranks }
-    ensures { let w = wire_in (facts A.store body.now).tables rank q in let m = own_next (facts A.store body.now).tables rank in result ≡ row Event.Measure Rule.Always (Few.One (Check.Possible w m)) (Few.Three Act.OwnUsed (Act.Apply (Letter.Keep w m)) (Act.BitSet b m)) }
+fn measure_row(books: &Books, rank: u16, q: u8, b: u8) -> Row
+    requires { rank < rank_count books.now }
+    ensures { let w = wire_in (tables books.now) rank q in
+        let m = own_next (tables books.now) rank in
+        let acts = Few.Three Act.OwnUsed (Act.Apply (Letter.Keep w m)) (Act.BitSet b m) in
+        result ≡ row Event.Measure Rule.Always (Few.One (Check.Possible w m)) acts }
 {
-    let w = wire_in(body, rank, q);
-    let m = body.own_next(rank);
+    let w = books.wire_in(rank, q);
+    let m = books.own_next(rank);
     tested(
         Event::Measure,
         Few::One(Check::Possible { w, m }),
@@ -109,30 +114,37 @@ fn measure_row<A: Amps>(body: &Body<A>, rank: u16, q: u8, b: u8) -> Row
 }
 
 /// Whether two bits differ.
-fn xor_row<A: Amps>(body: &Body<A>, rank: u16, b: u8, c: u8) -> Row
-    requires { rank < (facts A.store body.now).ranks }
-    ensures { let t = (facts A.store body.now).tables in result ≡ row Event.Xor Rule.Always Few.Empty (Few.One (Act.BitSet b (differing (bit_of t rank b) (bit_of t rank c)))) }
+fn xor_row(books: &Books, rank: u16, b: u8, c: u8) -> Row
+    requires { rank < rank_count books.now }
+    ensures { let t = tables books.now in
+        let v = differing (bit_of t rank b) (bit_of t rank c) in
+        result ≡ row Event.Xor Rule.Always Few.Empty (Few.One (Act.BitSet b v)) }
 {
-    let v = body.bit(rank, b) != body.bit(rank, c);
+    let v = books.bit(rank, b) != books.bit(rank, c);
     plain(Event::Xor, Few::One(Act::BitSet { b, v }))
 }
 
 /// A bit goes out.
-fn send_row<A: Amps>(body: &Body<A>, rank: u16, b: u8, to: u16, tag: u16) -> Row
-    requires { rank < (facts A.store body.now).ranks }
-    ensures { result ≡ row Event.SendBit Rule.Always Few.Empty (Few.One (Act.Posts (lane rank to kind.Bit tag) (told (bit_of (facts A.store body.now).tables rank b)))) }
+fn send_row(books: &Books, rank: u16, b: u8, to: u16, tag: u16) -> Row
+    requires { rank < rank_count books.now }
+    ensures { let a = lane rank to kind.Bit tag in
+        let acts = Few.One (Act.Posts a (told (bit_of (tables books.now) rank b))) in
+        result ≡ row Event.SendBit Rule.Always Few.Empty acts }
 {
     let lane = lane(rank, to, Kind::Bit, tag);
-    let parcel = told(body.bit(rank, b));
+    let parcel = told(books.bit(rank, b));
     plain(Event::SendBit, Few::One(Act::Posts { lane, parcel }))
 }
 
 /// A bit comes in.
-fn receive_row<A: Amps>(body: &Body<A>, rank: u16, b: u8, from: u16, tag: u16) -> Row
-    ensures { let a = lane from rank kind.Bit tag in result ≡ row Event.RecvBit (Rule.Filled a) Few.Empty (Few.Two (Act.Receives a) (Act.BitSet b (first_bit (front (facts A.store body.now).tables a)))) }
+fn receive_row(books: &Books, rank: u16, b: u8, from: u16, tag: u16) -> Row
+    ensures { let a = lane from rank kind.Bit tag in
+        let v = first_bit (front (tables books.now) a) in
+        let acts = Few.Two (Act.Receives a) (Act.BitSet b v) in
+        result ≡ row Event.RecvBit (Rule.Filled a) Few.Empty acts }
 {
     let lane = lane(from, rank, Kind::Bit, tag);
-    let v = first_bit(body.front(lane));
+    let v = books.front_bit(lane);
     waiting(
         Event::RecvBit,
         Rule::Filled { lane },
@@ -151,45 +163,55 @@ fn only(row: Row, stage: u32) -> Option<Row>
 }
 
 /// The line of an instruction at a stage. `None` exactly where it has no more events than that.
-fn row_at<A: Amps>(
-    input: &Input,
-    body: &Body<A>,
-    rank: u16,
-    instr: Instr,
-    stage: u32,
-) -> Option<Row>
-    requires here { IsRank input.now (facts A.store body.now) rank }
-    requires partner { (d : ℕ) → partner_of instr ≡ Some d → IsRank input.now (facts A.store body.now) d }
-    ensures { result ≡ slice_get (rows input.now (facts A.store body.now).tables rank instr) stage }
+fn row_at(input: &Input, books: &Books, rank: u16, instr: Instr, stage: u32) -> Option<Row>
+    requires here { IsRank input.now books.now rank }
+    requires partner { (d : ℕ) → partner_of instr ≡ Some d → IsRank input.now books.now d }
+    ensures { result ≡ slice_get (rows input.now (tables books.now) rank instr) stage }
 {
     match instr {
         Instr::Alloc { q } => only(plain(Event::Alloc, Few::One(Act::Fresh { q })), stage),
-        Instr::Free { q } => only(free_row(body, rank, q), stage),
-        Instr::Do { g } => only(gate_row(body, rank, g), stage),
-        Instr::When { b, g } => only(when_row(body, rank, b, g), stage),
-        Instr::Measure { q, b } => only(measure_row(body, rank, q, b), stage),
+        Instr::Free { q } => only(free_row(books, rank, q), stage),
+        Instr::Do { g } => only(gate_row(books, rank, g), stage),
+        Instr::When { b, g } => only(when_row(books, rank, b, g), stage),
+        Instr::Measure { q, b } => only(measure_row(books, rank, q, b), stage),
         Instr::Set { b, v } => only(plain(Event::Set, Few::One(Act::BitSet { b, v })), stage),
-        Instr::Xor { b, c } => only(xor_row(body, rank, b, c), stage),
-        Instr::SendBit { b, to, tag } => only(send_row(body, rank, b, to, tag), stage),
-        Instr::RecvBit { b, from, tag } => only(receive_row(body, rank, b, from, tag), stage),
-        Instr::CopyTo { q, to, tag } => copy_to(body, rank, q, to, tag, stage),
-        Instr::CopyFrom { q, from, tag } => copy_from(body, rank, q, from, tag, stage),
-        Instr::UndoTo { q, to, tag } => undo_to(input, body, rank, q, to, tag, stage),
-        Instr::UndoFrom { q, from, tag } => undo_from(body, rank, q, from, tag, stage),
-        Instr::MoveTo { q, to, tag } => move_to(body, rank, q, to, tag, stage),
-        Instr::MoveFrom { q, from, tag } => move_from(body, rank, q, from, tag, stage),
-        Instr::ReachTo { q, to, tag } => reach_to(body, rank, q, to, tag, stage),
-        Instr::ReachFrom { t, from, tag } => reach_from(body, rank, t, from, tag, stage),
+        Instr::Xor { b, c } => only(xor_row(books, rank, b, c), stage),
+        Instr::SendBit { b, to, tag } => only(send_row(books, rank, b, to, tag), stage),
+        Instr::RecvBit { b, from, tag } => only(receive_row(books, rank, b, from, tag), stage),
+        Instr::CopyTo { q, to, tag } => copy_to(books, Message::of(rank, q, to, tag), stage),
+        Instr::CopyFrom { q, from, tag } => copy_from(
+            books,
+            Message::of(rank, q, from, tag),
+            stage,
+        ),
+        Instr::UndoTo { q, to, tag } => undo_to(input, books, Message::of(rank, q, to, tag), stage),
+        Instr::UndoFrom { q, from, tag } => undo_from(
+            books,
+            Message::of(rank, q, from, tag),
+            stage,
+        ),
+        Instr::MoveTo { q, to, tag } => move_to(books, Message::of(rank, q, to, tag), stage),
+        Instr::MoveFrom { q, from, tag } => move_from(
+            books,
+            Message::of(rank, q, from, tag),
+            stage,
+        ),
+        Instr::ReachTo { q, to, tag } => reach_to(books, Message::of(rank, q, to, tag), stage),
+        Instr::ReachFrom { t, from, tag } => reach_from(
+            books,
+            Message::of(rank, t, from, tag),
+            stage,
+        ),
     }
 }
 
 /// The line at which a rank stands. `None` exactly where it has no event left.
-pub(crate) fn row_next<A: Amps>(input: &Input, body: &Body<A>, rank: u16) -> Option<Row>
-    requires { IsReadyRank input.now (facts A.store body.now) rank }
-    ensures { result ≡ row_next input.now (facts A.store body.now).tables rank }
+pub(crate) fn row_next(input: &Input, books: &Books, rank: u16) -> Option<Row>
+    requires { IsReadyRank input.now books.now rank }
+    ensures { result ≡ row_next input.now (tables books.now) rank }
 {
-    match current(input, body, rank) {
-        Some(instr) => row_at(input, body, rank, instr, body.stage(rank)),
+    match current(input, books, rank) {
+        Some(instr) => row_at(input, books, rank, instr, books.stage(rank)),
         None => None,
     }
 }

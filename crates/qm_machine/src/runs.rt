@@ -1,7 +1,7 @@
 //! Messages by every outcome, gates, and measurements on the machine. The events and the numbers were worked out elsewhere.
 use crate::fixtures::{
-    EIGHTH, NARROW, NONE, ONE, QUARTER, SMALL, Sizes, THREE_EIGHTHS, bits, blocked, did, follow,
-    follow_to_end, machine_of, numerators, numerators_of, programs, run,
+    EIGHTH, NARROW, NONE, ONE, QUARTER, SMALL, Sizes, THREE_EIGHTHS, bits, blocked, did, extent,
+    follow, follow_to_end, machine_of, numerators, numerators_of, programs, run,
 };
 use crate::instructions::{
     ALLOC, ALLOC_NEXT, COPY_FROM, COPY_NEXT_FROM, COPY_NEXT_TO, COPY_TO, CROSS, FLIP, FREE_NEXT,
@@ -21,6 +21,34 @@ const OUTCOMES: [(bool, bool); 4] = [(false, false), (false, true), (true, false
 
 /// Two ranks of two qubits.
 const WIDE: Sizes = Sizes { qubits: 2, ..SMALL };
+
+/// The machine of these programs of two ranks, with these outcomes of protocols, after all their events in this order.
+fn followed(
+    rt: &impl Abort,
+    alloc: Global,
+    instructions: &[(u16, Instr)],
+    outcomes: &[(u16, bool)],
+    steps: &[(u32, Event)],
+) -> Result<Machine<PlainAmps>, Fail> {
+    let input = programs(rt, alloc, SMALL, instructions, &[], outcomes)?;
+    let mut machine = machine_of(rt, alloc, input)?;
+    follow_to_end(rt, &mut machine, steps);
+    Ok(machine)
+}
+
+/// The machine of these programs, with these own outcomes, after all their events, those of the lowest rank first.
+fn ended(
+    rt: &impl Abort,
+    alloc: Global,
+    sizes: Sizes,
+    instructions: &[(u16, Instr)],
+    outcomes: &[(u16, bool)],
+) -> Result<Machine<PlainAmps>, Fail> {
+    let input = programs(rt, alloc, sizes, instructions, outcomes, &[])?;
+    let mut machine = machine_of(rt, alloc, input)?;
+    assert_eq!(rt; run(rt, &mut machine), State::AllEnded);
+    Ok(machine)
+}
 
 /// Rank 0 moves a turned qubit to rank 1.
 const MOVE: [(u16, Instr); 5] = [
@@ -49,16 +77,11 @@ const MOVE_STEPS: [(u32, Event); 11] = [
 fn moves_a_qubit_by_every_outcome(rt: HostRuntime) -> Result<(), Fail> {
     for (first, second) in OUTCOMES {
         let outcomes = [(0, first), (0, second)];
-        let input = programs(&rt, rt.alloc(), SMALL, &MOVE, &[], &outcomes)?;
-        let mut machine = machine_of(&rt, rt.alloc(), input)?;
-        follow_to_end(&rt, &mut machine, &MOVE_STEPS);
+        let machine = followed(&rt, rt.alloc(), &MOVE, &outcomes, &MOVE_STEPS)?;
         assert_eq!(rt; machine.paulis(), u64::from(first) + u64::from(second));
         assert_eq!(rt; machine.slot(0, 0), None);
         let moved = machine.slot(1, 0).expect(&rt, "a qubit that came");
-        assert_eq!(rt;
-            (machine.amps().live().len(), machine.amps().exponent()),
-            (1, 3)
-        );
+        assert_eq!(rt; extent(&machine), (1, 3));
         assert_eq!(rt; numerators_of(machine.amps(), moved), Some([ONE, EIGHTH]));
     }
     Ok(())
@@ -96,16 +119,11 @@ const UNDO_STEPS: [(u32, Event); 13] = [
 fn gives_a_copy_back_by_every_outcome(rt: HostRuntime) -> Result<(), Fail> {
     for (first, second) in OUTCOMES {
         let outcomes = [(0, first), (1, second)];
-        let input = programs(&rt, rt.alloc(), SMALL, &UNDO, &[], &outcomes)?;
-        let mut machine = machine_of(&rt, rt.alloc(), input)?;
-        follow_to_end(&rt, &mut machine, &UNDO_STEPS);
+        let machine = followed(&rt, rt.alloc(), &UNDO, &outcomes, &UNDO_STEPS)?;
         assert_eq!(rt; machine.paulis(), u64::from(first) + u64::from(second));
         assert_eq!(rt; machine.slot(1, 0), None);
         let source = machine.slot(0, 0).expect(&rt, "the source");
-        assert_eq!(rt;
-            (machine.amps().live().len(), machine.amps().exponent()),
-            (1, 3)
-        );
+        assert_eq!(rt; extent(&machine), (1, 3));
         assert_eq!(rt;
             numerators_of(machine.amps(), source),
             Some([ONE, THREE_EIGHTHS])
@@ -153,15 +171,10 @@ const REACH_STEPS: [(u32, Event); 18] = [
 fn reaches_a_target_by_every_outcome(rt: HostRuntime) -> Result<(), Fail> {
     for (first, second) in OUTCOMES {
         let outcomes = [(0, first), (1, second)];
-        let input = programs(&rt, rt.alloc(), SMALL, &REACH, &[], &outcomes)?;
-        let mut machine = machine_of(&rt, rt.alloc(), input)?;
-        follow_to_end(&rt, &mut machine, &REACH_STEPS);
+        let machine = followed(&rt, rt.alloc(), &REACH, &outcomes, &REACH_STEPS)?;
         let control = machine.slot(0, 0).expect(&rt, "the control");
         let target = machine.slot(1, 0).expect(&rt, "the target");
-        assert_eq!(rt;
-            (machine.amps().live().len(), machine.amps().exponent()),
-            (2, 4)
-        );
+        assert_eq!(rt; extent(&machine), (2, 4));
         let all = [EIGHTH, [0, 0, 0, -1], QUARTER, ONE];
         assert_eq!(rt; numerators(machine.amps(), control, target), Some(all));
     }
@@ -229,10 +242,7 @@ fn two_copies_are_given_back_one_by_one(rt: HostRuntime) -> Result<(), Fail> {
     assert_eq!(rt; run(&rt, &mut machine), State::AllEnded);
     let kept = machine.slot(0, 0).expect(&rt, "a source");
     let turned = machine.slot(0, 1).expect(&rt, "the other one");
-    assert_eq!(rt;
-        (machine.amps().live().len(), machine.amps().exponent()),
-        (2, 6)
-    );
+    assert_eq!(rt; extent(&machine), (2, 6));
     let all = [ONE, ONE, EIGHTH, EIGHTH];
     assert_eq!(rt; numerators(machine.amps(), kept, turned), Some(all));
     Ok(())
@@ -249,9 +259,7 @@ fn gated(rt: &impl Abort, alloc: Global, gate: Gate) -> Result<Option<[[i128; 4]
         (0, HALF_TURN_NEXT),
         (0, Instr::Do { g: gate }),
     ];
-    let input = programs(rt, alloc, NARROW, &instructions, &[], &[])?;
-    let mut machine = machine_of(rt, alloc, input)?;
-    assert_eq!(rt; run(rt, &mut machine), State::AllEnded);
+    let machine = ended(rt, alloc, NARROW, &instructions, &[])?;
     let v = machine.slot(0, 0).expect(rt, "a qubit");
     let w = machine.slot(0, 1).expect(rt, "the next one");
     Ok(numerators(machine.amps(), v, w))
@@ -290,15 +298,10 @@ const MEASURED: [(u16, Instr); 6] = [
 
 #[test]
 fn a_qubit_that_is_zero_is_given_up(rt: HostRuntime) -> Result<(), Fail> {
-    let input = programs(&rt, rt.alloc(), NARROW, &MEASURED, &[(0, false)], &[])?;
-    let mut machine = machine_of(&rt, rt.alloc(), input)?;
-    assert_eq!(rt; run(&rt, &mut machine), State::AllEnded);
+    let machine = ended(&rt, rt.alloc(), NARROW, &MEASURED, &[(0, false)])?;
     assert_eq!(rt; machine.slot(0, 1), None);
     let measured = machine.slot(0, 0).expect(&rt, "what was measured");
-    assert_eq!(rt;
-        (machine.amps().live().len(), machine.amps().exponent()),
-        (1, 1)
-    );
+    assert_eq!(rt; extent(&machine), (1, 1));
     assert_eq!(rt; numerators_of(machine.amps(), measured), Some([ONE, NONE]));
     Ok(())
 }
@@ -330,12 +333,10 @@ fn gates_depend_on_bits(rt: HostRuntime) -> Result<(), Fail> {
         (false, 0x10, 1, [NONE, NONE, ONE, NONE]),
         (true, 0x18, 2, [NONE, ONE, NONE, ONE]),
     ] {
-        let input = programs(&rt, rt.alloc(), NARROW, &instructions, &[(0, outcome)], &[])?;
-        let mut machine = machine_of(&rt, rt.alloc(), input)?;
-        assert_eq!(rt; run(&rt, &mut machine), State::AllEnded);
+        let machine = ended(&rt, rt.alloc(), NARROW, &instructions, &[(0, outcome)])?;
         assert_eq!(rt;
-            (bits(&rt, &machine, 0), machine.amps().exponent()),
-            (found, exponent)
+            (bits(&rt, &machine, 0), extent(&machine)),
+            (found, (2, exponent))
         );
         let measured = machine.slot(0, 0).expect(&rt, "what was measured");
         let next = machine.slot(0, 1).expect(&rt, "the next one");
@@ -383,7 +384,7 @@ fn sends_a_measured_bit(rt: HostRuntime) -> Result<(), Fail> {
     assert_eq!(rt; (bits(&rt, &machine, 0), bits(&rt, &machine, 1)), (1, 0x20));
     let measured = machine.slot(0, 0).expect(&rt, "what was measured");
     let flipped = machine.slot(1, 0).expect(&rt, "what was flipped");
-    assert_eq!(rt; machine.amps().exponent(), 1);
+    assert_eq!(rt; extent(&machine), (2, 1));
     let all = [NONE, NONE, NONE, ONE];
     assert_eq!(rt; numerators(machine.amps(), measured, flipped), Some(all));
     Ok(())

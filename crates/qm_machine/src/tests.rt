@@ -6,7 +6,9 @@ use crate::fixtures::{
     NONE, ONE, SMALL, Sizes, blocked, did, follow, follow_halves, halves, machine_of, numerators,
     programs, push_all, push_protocol,
 };
-use crate::instructions::{ALLOC, COPY_FROM, COPY_NEXT_FROM, COPY_TO, FREE_NEXT, HAD};
+use crate::instructions::{
+    ALLOC, COPY_BACK, COPY_BACK_NEXT_FROM, COPY_FROM, COPY_NEXT_FROM, COPY_TO, FREE_NEXT, HAD,
+};
 use crate::{Machine, State, Step, Why};
 use qm_denot::{Amps, PlainAmps};
 use qm_instr::{Input, Instr};
@@ -113,24 +115,12 @@ fn a_pair_waits_until_it_is_wanted(rt: HostRuntime) -> Result<(), Fail> {
 const CROSSED: [(u16, Instr); 7] = [
     (0, ALLOC),
     (0, COPY_TO),
-    (0, CROSSED_FROM),
+    (0, COPY_BACK_NEXT_FROM),
     (1, ALLOC),
     (1, HAD),
-    (1, CROSSED_TO),
+    (1, COPY_BACK),
     (1, COPY_NEXT_FROM),
 ];
-
-const CROSSED_TO: Instr = Instr::CopyTo {
-    q: 0,
-    to: 0,
-    tag: 7,
-};
-
-const CROSSED_FROM: Instr = Instr::CopyFrom {
-    q: 1,
-    from: 1,
-    tag: 7,
-};
 
 /// The events of the crossed copies in one order, and how many halves each rank holds after it.
 const CROSSED_STEPS: [(u32, Event, [u32; 2]); 13] = [

@@ -17,7 +17,7 @@ use Rattle.qm_parse.specs.declared.words.Verb.{Verb}
 use Rattle.qm_parse.specs.Words.{bits_word, takes_gate}
 use Rattle.qm_parse.specs.Signs.{Sign, Number, Key, Act, Ident, Symbol}
 use Rattle.qm_parse.specs.Looks.{capped, is_outcome, is_bits, look_of}
-use Rattle.qm_parse.specs.Trees.{Times, Over, Rest, Plus, Minus, Prim, Num, Name, Rank, Size}
+use Rattle.qm_parse.specs.Trees.{Times, Over, Rest, Plus, Minus, Num, Name, Rank, Size}
 use Rattle.qm_parse.specs.Verdicts.{is_fixed, verdict_if, stay_unless, number_verdict, is_rank, is_all, is_tape, is_statement, verdict_of}
 use Rattle.qm_parse.specs.Moves.{each_goals, next_goals}
 use Rattle.qm_parse.specs.Reaching.{with_leaf}

@@ -24,4 +24,5 @@ abbrev pub OneFault : Type 0
 OneFault = (text : List ℕ) (tokens : List Token) (e f : ParseError) → Refused text tokens e → Refused text tokens f → e ≡ f
 
 abbrev pub TreeOrFault : Type 0
-TreeOrFault = (text : List ℕ) (tokens : List Token) (p : Program) (e : ParseError) → Spells (signs_of text tokens) p → ¬ Refused text tokens e
+TreeOrFault =
+    (text : List ℕ) (tokens : List Token) (p : Program) (e : ParseError) → Spells (signs_of text tokens) p → ¬ Refused text tokens e

@@ -24,7 +24,8 @@ start_goals = goal.Fixed fixed.Qmpi ∷ goal.Number 1 2 true ∷ goal.Fixed fixe
 -- ---- of the frame; base is the number of the next node
 abbrev pub ranks_goals : Look → List Goal
 ranks_goals (look.Number ranks) =
-    goal.Fixed fixed.Qubits ∷ goal.Number 1 17 true ∷ goal.Fixed fixed.Buffer ∷ goal.Number 1 9 true ∷ goal.Blocks ranks ∷ goal.Tapes ranks ∷ []
+    goal.Fixed fixed.Qubits ∷ goal.Number 1 17 true ∷ goal.Fixed fixed.Buffer ∷ goal.Number 1 9 true
+    ∷ goal.Blocks ranks ∷ goal.Tapes ranks ∷ []
 ranks_goals l = []
 
 abbrev pub each_goals : ℕ → ℕ → ℕ → List Goal
@@ -46,9 +47,12 @@ call_goals v goals = goal.Operands (count_by is_some v.operands) ∷ goals
 
 abbrev pub statement_goals : Look → ℕ → List Goal
 statement_goals (look.Verb v) base =
-    if takes_gate v.action then call_goals v (goal.Gate ∷ goal.Close base ∷ goal.Body ∷ []) else call_goals v (goal.Close base ∷ goal.Body ∷ [])
+    if takes_gate v.action
+    then call_goals v (goal.Gate ∷ goal.Close base ∷ goal.Body ∷ [])
+    else call_goals v (goal.Close base ∷ goal.Body ∷ [])
 statement_goals (look.Keyword keyword.For) base =
-    goal.Name ∷ goal.Fixed fixed.In ∷ goal.Operands 1 ∷ goal.Fixed fixed.Dots ∷ goal.Operands 1 ∷ goal.Braced ∷ goal.Close base ∷ goal.Body ∷ []
+    goal.Name ∷ goal.Fixed fixed.In ∷ goal.Operands 1 ∷ goal.Fixed fixed.Dots ∷ goal.Operands 1
+    ∷ goal.Braced ∷ goal.Close base ∷ goal.Body ∷ []
 statement_goals l base = []
 
 abbrev pub gate_goals : Look → ℕ → List Goal

@@ -96,7 +96,8 @@ blocks_nodes at base (ForEach bodies) = each_nodes at base bodies
 abbrev pub tapes_nodes : (at base : ℕ) → List TapeLine → List Node
 tapes_nodes at base [] = []
 tapes_nodes at base (t ∷ ts) =
-    around (if t.own then what.Own else what.Protocol) at base (leaf what.Num (at + 1) t.rank (base + 1) ∷ leaf what.Bits (at + 2) 0 (base + 2) ∷ [])
+    around (if t.own then what.Own else what.Protocol) at base
+    (leaf what.Num (at + 1) t.rank (base + 1) ∷ leaf what.Bits (at + 2) 0 (base + 2) ∷ [])
     ++ tapes_nodes (at + 3) (base + 3) ts
 
 -- the four numbers of the head, the blocks, the tape lines

@@ -33,7 +33,8 @@ error_of text tokens at s = stop_on text (option_map (λ t. t.line) (slice_get t
 
 -- why the reading of tokens ends at a place
 pub data Halts (signs : List Sign) (p : Place) : Stop → Type 0 where
-  AtGoal : (g : Goal) (rest : List Goal) (s : Stop) → p.goals ≡ g ∷ rest → verdict_of g (next_look signs p) p.depth ≡ verdict.Stop s → Halts signs p s
+  AtGoal : (g : Goal) (rest : List Goal) (s : Stop) → p.goals ≡ g ∷ rest
+      → verdict_of g (next_look signs p) p.depth ≡ verdict.Stop s → Halts signs p s
   Behind : p.goals ≡ [] → p.at < length signs → Halts signs p stop.Unexpected
 
 -- the reading of a text ends at a place with an error

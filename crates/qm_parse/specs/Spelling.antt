@@ -75,5 +75,6 @@ tapes_signs (t ∷ ts) = tape_signs t ++ tapes_signs ts
 
 abbrev pub program_signs : Program → List Sign
 program_signs p =
-    Key keyword.Qmpi ∷ Number 1 ∷ Key keyword.Ranks ∷ Number p.ranks ∷ Key keyword.Qubits ∷ Number p.qubits ∷ Key keyword.Buffer ∷ Number p.buffer
+    Key keyword.Qmpi ∷ Number 1 ∷ Key keyword.Ranks ∷ Number p.ranks ∷ Key keyword.Qubits ∷ Number p.qubits
+    ∷ Key keyword.Buffer ∷ Number p.buffer
     ∷ (blocks_signs p.blocks ++ tapes_signs p.tapes)

@@ -24,6 +24,9 @@ use Rattle.qm_parse.specs.Faults.{open_after}
 abbrev verb_x : Verb
 verb_x = record { action = action.One one.X; operands = Some operand.Slot ∷ None ∷ None ∷ None ∷ [] }
 
+abbrev verb_when : Verb
+verb_when = record { action = action.When; operands = Some operand.Bit ∷ None ∷ None ∷ None ∷ [] }
+
 abbrev verb_bcast : Verb
 verb_bcast = record { action = action.Bcast; operands = Some operand.Slot ∷ Some operand.Root ∷ Some operand.Tag ∷ None ∷ [] }
 
@@ -61,7 +64,7 @@ loop = For (codes "i")
     (single (Num 0))
     (Sum (Product (Num 2) NoMul) (Add Plus (Product (Paren (single Rank)) (Mul Times (Name (codes "i")) NoMul)) NoAdd))
     (Then (DoUnder
-    (record { verb = record { action = action.When; operands = Some operand.Bit ∷ None ∷ None ∷ None ∷ [] }; operands = single (Name (codes "i")) ∷ [] })
+    (record { verb = verb_when; operands = single (Name (codes "i")) ∷ [] })
     (record { verb = verb_x; operands = single (Num 1) ∷ [] })) Nothing)
 
 abbrev program : Program
@@ -89,7 +92,8 @@ program_written : program_nodes program ≡
     ∷ node what.Block 8 0 20
     ∷ node what.For 10 0 20
     ∷ node what.Num 13 0 7 ∷ node what.Arg 13 0 8
-    ∷ node what.Num 15 2 9 ∷ node what.Rank 18 0 10 ∷ node what.Name 21 0 11 ∷ node what.Times 20 0 12 ∷ node what.Plus 16 0 13 ∷ node what.Arg 15 0 14
+    ∷ node what.Num 15 2 9 ∷ node what.Rank 18 0 10 ∷ node what.Name 21 0 11 ∷ node what.Times 20 0 12 ∷ node what.Plus 16 0 13
+    ∷ node what.Arg 15 0 14
     ∷ node what.Instr 23 0 20 ∷ node what.Name 24 0 16 ∷ node what.Arg 24 0 17
     ∷ node what.Instr 25 0 20 ∷ node what.Num 26 1 19 ∷ node what.Arg 26 0 20
     ∷ node what.Block 29 0 21
@@ -103,5 +107,6 @@ opened n = replicate n (Symbol mark.OpenParenthesis)
 depth_of_thirty_two : open_after 0 (opened 32) ≡ 32
 depth_of_thirty_two = refl
 
-depth_reached : open_after 0 (Symbol mark.OpenBrace ∷ Symbol mark.OpenParenthesis ∷ Symbol mark.CloseParenthesis ∷ Symbol mark.Plus ∷ []) ≡ 1
+depth_reached :
+    open_after 0 (Symbol mark.OpenBrace ∷ Symbol mark.OpenParenthesis ∷ Symbol mark.CloseParenthesis ∷ Symbol mark.Plus ∷ []) ≡ 1
 depth_reached = refl

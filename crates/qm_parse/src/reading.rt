@@ -11,7 +11,7 @@ use crate::looks::{Look, look_at};
 use crate::stack::Goals;
 use crate::tree::{Node, Tree};
 use crate::words::Mark;
-use qm_lex::Tokens;
+use qm_lex::{MOST_BYTES, Tokens};
 use std::alloc::{AllocError, Global};
 
 /// How far a text was read.
@@ -67,7 +67,8 @@ impl Reading {
     /// Writes what a goal has to write.
     fn write(&mut self, goal: Goal, look: Look) -> Result<(), AllocError>
         requires { length self.old.nodes.items < 4294967295 }
-        ensures nodes { OnOk result (self.new.nodes.items ≡ written goal look self.old.at self.old.nodes.items) }
+        ensures nodes { OnOk result
+            (self.new.nodes.items ≡ written goal look self.old.at self.old.nodes.items) }
         ensures goals { self.new.goals ≡ self.old.goals }
         ensures at { self.new.at ≡ self.old.at }
         ensures depth { self.new.depth ≡ self.old.depth }
@@ -129,7 +130,7 @@ fn line_of(tokens: &Tokens, at: u32) -> Option<u32>
 
 /// The line of the end of a text.
 fn end_line(text: &[u8]) -> u32
-    requires { length text.now ≤ 1048576 }
+    requires { length text.now ≤ MOST_BYTES }
     ensures { result ≡ end_line text.now }
 {
     text.iter().filter(|byte| **byte == b'\n').count() as u32 + 1
@@ -137,7 +138,7 @@ fn end_line(text: &[u8]) -> u32
 
 /// The error of a stop at a token; at the end of the text it is always that the text has ended.
 fn error_at(text: &[u8], tokens: &Tokens, at: u32, stop: Stop) -> ParseError
-    requires { length text.now ≤ 1048576 }
+    requires { length text.now ≤ MOST_BYTES }
     ensures { result ≡ error_of text.now (token_list tokens.now) at stop }
 {
     match (line_of(tokens, at), stop) {
@@ -153,7 +154,7 @@ fn error_at(text: &[u8], tokens: &Tokens, at: u32, stop: Stop) -> ParseError
 /// The source tree of a text, of which these are the tokens. The first token at which no program goes on decides the error, and
 /// where the text ends too early it is `Unended`; `Memory` comes only where memory runs out.
 pub fn parse(alloc: Global, text: &[u8], tokens: &Tokens) -> Result<Tree, ParseError>
-    requires small { length text.now ≤ 1048576 }
+    requires small { length text.now ≤ MOST_BYTES }
     requires tokens { tokens_of text.now ≡ Ok (token_list tokens.now) }
     ensures parses { Parses text.now (token_list tokens.now) result }
     ensures came { Came text.now (token_list tokens.now) result }

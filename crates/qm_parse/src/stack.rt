@@ -29,7 +29,8 @@ impl Goals {
 
     /// Takes the next goal.
     pub(crate) fn pop(&mut self) -> Option<Goal>
-        ensures { MatchOption result (goals_left self.old ≡ []) (λ g. goals_left self.old ≡ g ∷ goals_left self.new) }
+        ensures { MatchOption result (goals_left self.old ≡ [])
+            (λ g. goals_left self.old ≡ g ∷ goals_left self.new) }
     {
         self.items.pop()
     }
@@ -54,7 +55,8 @@ impl Goals {
         at: u32,
         base: u32,
     ) -> Result<(), AllocError>
-        ensures { OnOk result (goals_left self.new ≡ next_goals goal look at base ++ goals_left self.old) }
+        ensures { OnOk result
+            (goals_left self.new ≡ next_goals goal look at base ++ goals_left self.old) }
     {
         match goal {
             Goal::Body | Goal::Braced | Goal::Gate => self.push_body(goal, look, base),
@@ -66,7 +68,8 @@ impl Goals {
     }
 
     fn push_frame(&mut self, goal: Goal, look: Look, base: u32) -> Result<(), AllocError>
-        ensures { OnOk result (goals_left self.new ≡ frame_goals goal look base ++ goals_left self.old) }
+        ensures { OnOk result
+            (goals_left self.new ≡ frame_goals goal look base ++ goals_left self.old) }
     {
         match goal {
             Goal::Ranks => self.push_ranks(look),
@@ -131,7 +134,8 @@ impl Goals {
     }
 
     fn push_body(&mut self, goal: Goal, look: Look, base: u32) -> Result<(), AllocError>
-        ensures { OnOk result (goals_left self.new ≡ body_goals goal look base ++ goals_left self.old) }
+        ensures { OnOk result
+            (goals_left self.new ≡ body_goals goal look base ++ goals_left self.old) }
     {
         match goal {
             Goal::Body => self.push_statement(look, base),
@@ -142,7 +146,8 @@ impl Goals {
     }
 
     fn push_statement(&mut self, look: Look, base: u32) -> Result<(), AllocError>
-        ensures { OnOk result (goals_left self.new ≡ statement_goals look base ++ goals_left self.old) }
+        ensures { OnOk result
+            (goals_left self.new ≡ statement_goals look base ++ goals_left self.old) }
     {
         let close = Goal::Close { node: base };
         match look {
@@ -185,7 +190,8 @@ impl Goals {
     }
 
     fn push_expr(&mut self, goal: Goal, look: Look, at: u32) -> Result<(), AllocError>
-        ensures { OnOk result (goals_left self.new ≡ expr_goals goal look at ++ goals_left self.old) }
+        ensures { OnOk result
+            (goals_left self.new ≡ expr_goals goal look at ++ goals_left self.old) }
     {
         match goal {
             Goal::Operands { left } if left > 0 => self.push_all(&[

@@ -1,10 +1,8 @@
 -- Texts for the numbers below a bound, one after the other
-use Rattle.std.proofs.Common.{◌≡◌, ℕ, zero, suc, ◌+◌, ◌<◌, ◌⊎◌, inl, inr, List, [], ◌∷◌, ◌++◌, Option, length, refl, sym, ap, ◌∙◌, subst, arith, add-one}
-use Rattle.std.specs.List.{flat_map}
+use Rattle.std.proofs.Common.{◌≡◌, ℕ, zero, suc, ◌+◌, ◌<◌, ◌⊎◌, inl, inr, List, ◌++◌, Option, refl, sym, ap, ◌∙◌, subst, arith, add-one}
 use Rattle.qm_denot.specs.declared.Wire.{Wire}
 use Rattle.qm_instr.specs.Programs.{Programs, rank_of}
 use Rattle.qm_io.specs.Ends.{SinkView}
-use Rattle.qm_print.specs.declared.Live.{Live}
 use Rattle.qm_print.specs.Below.{text_below}
 use Rattle.qm_print.specs.Gathering.{Added, Stopped}
 use Rattle.qm_print.specs.Slots.{slot_if, rank_slots, slots_below, slot_lines, slot_line}

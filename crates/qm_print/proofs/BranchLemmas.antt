@@ -1,5 +1,5 @@
 -- Branches that go on over slots and come back, and the lines that are written of them
-use Rattle.std.proofs.Common.{◌≡◌, ℕ, suc, ◌+◌, ◌-◌, ◌*◌, ◌^◌, ◌<◌, ◌≤◌, Bool, true, false, List, [], ◌∷◌, ◌++◌, length, take, drop, get_or, map, All, Contains, refl, sym, ◌∙◌, ap, subst, arith, add-one, append_assoc, length-append, Decides, ℤ, pos, negsuc}
+use Rattle.std.proofs.Common.{◌≡◌, ℕ, ◌+◌, ◌-◌, ◌<◌, ◌≤◌, Bool, true, false, List, [], ◌∷◌, ◌++◌, length, take, drop, get_or, map, All, Contains, refl, sym, ◌∙◌, ap, subst, arith, add-one, append_assoc, length-append, Decides, ℤ, pos, negsuc}
 use Rattle.std.proofs.lemmas.Bool.Decides.{Decides-and, Decides-int_eq, Decides-like, same_from_decides}
 use Rattle.std.proofs.lemmas.Int.{to_z-of_z}
 use Rattle.std.proofs.lemmas.List.Elements.{All-nil, All-head, All-tail, All-cons}
@@ -22,7 +22,7 @@ use Rattle.qm_print.specs.Slots.{AreLive}
 use Rattle.qm_print.specs.StateText.{is_zero_number, branch_lines, branch_count}
 
 -- ---- the number 0
-Decides-is_zero_number : (z : Number) → Decides (is_zero_number z) (z ≡ zero_number)
+pub Decides-is_zero_number : (z : Number) → Decides (is_zero_number z) (z ≡ zero_number)
 Decides-is_zero_number z =
     Decides-like _ (λ p. same z zero_number p.0 p.1.0 p.1.1.0 p.1.1.1)
     (λ e. (ap (λ (w : Number). w.a) e, (ap (λ (w : Number). w.b) e, (ap (λ (w : Number). w.c) e, ap (λ (w : Number). w.d) e))))

@@ -3,3 +3,4 @@ pub mod BelowLemmas
 pub mod BitsLemmas
 pub mod WalkLemmas
 pub mod BranchLemmas
+pub mod LineLemmas

@@ -1,5 +1,5 @@
 -- Where the ranks stand after each turn, and which event is next there
-use Rattle.std.proofs.Common.{◌≡◌, ◌≢◌, ◌∙◌, ℕ, zero, suc, ◌+◌, ◌<◌, ◌≤◌, nat_lt, cond, Bool, true, false, is_some, List, [], ◌∷◌, ◌++◌, length, take, drop, map, fold, get_or, set, replicate, Option, Some, None, IsSome, slice_get, option_map, refl, sym, ap, ap₂, subst, arith, add-one, append_assoc, drop-cons}
+use Rattle.std.proofs.Common.{◌≡◌, ◌∙◌, ℕ, zero, suc, ◌+◌, ◌<◌, ◌≤◌, nat_lt, cond, Bool, true, false, is_some, List, [], ◌∷◌, ◌++◌, length, take, drop, map, fold, get_or, set, replicate, Option, Some, None, IsSome, slice_get, option_map, refl, sym, ap, ap₂, subst, arith, add-one, append_assoc, drop-cons}
 use Rattle.std.proofs.lemmas.List.{length-set, length-replicate, length-take-le, get_or-set_same, get_or-set_other, append-nil, take_more, take-append-drop}
 use Rattle.std.proofs.lemmas.Option.{slice_get-map, slice_get_within}
 use Rattle.std.proofs.lemmas.List.Sums.{fold_push, get_or-le-sum_by}
@@ -11,14 +11,16 @@ use Rattle.qm_proto.specs.declared.Row.{Row}
 use Rattle.qm_proto.specs.Events.{events_in}
 use Rattle.qm_proto.specs.Model.Rows.{rows, current, instr_at}
 use Rattle.qm_proto.specs.Model.Runs.{row_in, row_next, row_holds, enabled, events_at, next_tables, next}
-use Rattle.qm_proto.specs.Model.Schedules.{MayStep, IsLegalFrom, state_at_start, tables_at_start}
-use Rattle.qm_proto.specs.Model.State.{Part, Tables, State, with_at}
+use Rattle.qm_proto.specs.Model.Schedules.{IsLegalFrom, state_at_start, tables_at_start}
+use Rattle.qm_proto.specs.Model.State.{Tables, State, with_at}
 use Rattle.qm_proto.proofs.Changes.{by_number, with_at-here, with_at-elsewhere}
-use Rattle.qm_ideal.specs.Meetings.{Shape, Stand, stand_of, shape_next, gone}
+use Rattle.qm_runs.specs.Stuck.Shapes.{Shape}
+use Rattle.qm_ideal.specs.Meetings.{Stand, stand_of, shape_next, gone}
 use Rattle.qm_ideal.proofs.MeetingLemmas.{left_same, next_same}
 use Rattle.qm_print.specs.declared.blocks.Place.{Place}
 use Rattle.qm_print.specs.Blocks.{row_name, event_name, event_line, event_lines}
 use Rattle.qm_print.specs.Walks.{first_place, place_at, event_in, event_at, place_after, StandsIn}
+use Rattle.qm_runs.proofs.Tables.Counting.{event_where_held}
 
 -- ---- the event that is next
 abbrev event_of : Row → Event
@@ -78,10 +80,6 @@ is_some_cases : {T : Type 0} (o : Option T) → is_some o ≡ true → (x : T) �
 is_some_cases None h = cc
 is_some_cases (Some x) h = (x, refl)
 
-has_from_holds : (p : Programs) (t : Tables) (o : Option Row) → row_holds p t o ≡ true → is_some o ≡ true
-has_from_holds p t None h = cc
-has_from_holds p t (Some w) h = refl
-
 after_at : (b : Bool) (x y : Place) → (cond b x y).at ≡ cond b x.at y.at
 after_at true x y = refl
 after_at false x y = refl
@@ -96,7 +94,7 @@ module _ (p : Programs) (t : Tables) (r : ℕ) (able : enabled p t r ≡ true) w
   more = nat_lt ((t.parts r).stage + 1) (events_at (current p t r))
 
   some_shape : (w : Shape) × (shape_next (instr_at p) (stand_of t) r ≡ Some w)
-  some_shape = is_some_cases _ (sym (left_same p t r) ∙ has_from_holds p t (row_next p t r) able)
+  some_shape = is_some_cases _ (sym (left_same p t r) ∙ event_where_held p t (row_next p t r) able)
 
   stand_after : stand_of (next_tables p t r) ≡ gone (events_at (current p t r)) (stand_of t) r (Some some_shape.0)
   stand_after = next_same p t r ∙ ap (gone (events_at (current p t r)) (stand_of t) r) some_shape.1

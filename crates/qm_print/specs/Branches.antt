@@ -1,5 +1,5 @@
 -- A branch in the making: its bits, the wires that are one in it, and the slots over which it goes on
-use Rattle.std.specs.Prelude.{◌≡◌, ℕ, ◌+◌, ◌-◌, ◌≤◌, List, [], ◌++◌, length, take, map, All, Contains}
+use Rattle.std.specs.Prelude.{ℕ, ◌+◌, ◌-◌, ◌≤◌, List, [], ◌++◌, length, take, map, All, Contains}
 use Rattle.qm_denot.specs.declared.Wire.{Wire}
 use Rattle.qm_denot.specs.WireLists.{Distinct}
 use Rattle.qm_print.specs.declared.Live.{Live}

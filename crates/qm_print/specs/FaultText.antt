@@ -1,5 +1,5 @@
 -- The line of a refusal, or of another end without a text
-use Rattle.std.specs.Prelude.{◌≡◌, ◌≢◌, ℕ, ◌/◌, ◌%◌, ◌^◌, ◌==◌, Bool, if◌then◌else◌, List, [], ◌++◌, codes, decimal}
+use Rattle.std.specs.Prelude.{◌≢◌, ℕ, ◌/◌, ◌%◌, ◌^◌, ◌==◌, Bool, if◌then◌else◌, List, [], ◌++◌, codes, decimal}
 use Rattle.qm_print.specs.Below.{text_below}
 use Rattle.qm_instr.specs.declared.Kind.{Kind}
 use Rattle.qm_instr.specs.declared.Kind.TheVariants as kind

@@ -9,7 +9,7 @@ use Rattle.qm_denot.specs.Circuits.{Amplitudes, Circuit}
 use Rattle.qm_denot.specs.Stores.{IsReducedForm}
 use Rattle.qm_instr.specs.Programs.{Programs}
 use Rattle.qm_proto.specs.Model.Schedules.{protocol_total}
-use Rattle.qm_ideal.specs.OneCircuits.{number_of_bits}
+use Rattle.qm_bits.specs.Numbers.{number_of_bits}
 use Rattle.qm_print.specs.declared.Live.{Live}
 use Rattle.qm_print.specs.Slots.{full_slots, slots_text}
 use Rattle.qm_print.specs.Bits.{bits_lines}
@@ -25,7 +25,8 @@ bits_text (b ∷ bs) = b ∷ bs
 -- the line of a branch: its bit string and its numerator
 abbrev pub branch_line : List ℕ → Number → List ℕ
 branch_line bits z =
-    bits_text bits ++ codes " " ++ signed_decimal z.a ++ codes " " ++ signed_decimal z.b ++ codes " " ++ signed_decimal z.c ++ codes " " ++ signed_decimal z.d ++ codes "\n"
+    bits_text bits ++ codes " " ++ signed_decimal z.a ++ codes " " ++ signed_decimal z.b
+    ++ codes " " ++ signed_decimal z.c ++ codes " " ++ signed_decimal z.d ++ codes "\n"
 
 -- the lines of the branches that agree with x and these bits, in rising order of their bit strings, without those that are zero
 abbrev pub branch_lines : Amplitudes → List ℕ → Wires → List Live → List ℕ
@@ -55,8 +56,10 @@ state_lines ranks protocol scale bits live u =
     ++ branch_lines u [] no_wires live ++ codes "end\n"
 
 -- the text is the state text of a circuit: its reduced form, with this much more in the exponent, over the ranks' full slots
-pub record IsStateText (p : Programs) (c : Circuit) (more : ℕ) (bits : ℕ → List Bool) (slots : ℕ → ℕ → Option Wire) (text : List ℕ) : Type 0 where
+pub record IsStateText
+    (p : Programs) (c : Circuit) (more : ℕ) (bits : ℕ → List Bool) (slots : ℕ → ℕ → Option Wire) (text : List ℕ) : Type 0 where
   pub numerators : Amplitudes
   pub exponent : ℕ
   pub form : IsReducedForm numerators exponent c
-  pub lines : text ≡ state_lines (length p.ranks) (protocol_total p) (exponent + more) (λ r. number_of_bits (bits r)) (full_slots p slots) numerators
+  pub lines : text
+      ≡ state_lines (length p.ranks) (protocol_total p) (exponent + more) (λ r. number_of_bits (bits r)) (full_slots p slots) numerators

@@ -60,7 +60,10 @@ impl Branch {
     pub(crate) fn enter_one(&mut self, wire: Wire)
         requires bits { length self.old.bits < 22 }
         requires ones { length self.old.ones < 22 }
-        ensures { self.new ≡ record { bits = self.old.bits ++ 49 ∷ []; ones = self.old.ones ++ wire ∷ [] } }
+        ensures { self.new ≡ record {
+          bits = self.old.bits ++ 49 ∷ [];
+          ones = self.old.ones ++ wire ∷ [];
+        } }
     {
         self.bits[self.length] = b'1';
         self.length += 1;
@@ -80,7 +83,10 @@ impl Branch {
     pub(crate) fn leave_one(&mut self)
         requires bits { 0 < length self.old.bits }
         requires ones { 0 < length self.old.ones }
-        ensures { self.new ≡ record { bits = without_last self.old.bits; ones = without_last self.old.ones } }
+        ensures { self.new ≡ record {
+          bits = without_last self.old.bits;
+          ones = without_last self.old.ones;
+        } }
     {
         self.length -= 1;
         self.count -= 1;

@@ -108,7 +108,8 @@ impl Page {
 
     /// Adds a piece.
     fn put_piece<O: Sink>(&mut self, sink: &mut O, piece: Piece<'_>) -> Result<(), Failed>
-        ensures { Gathers (O.seen sink.old) (O.seen sink.new) self.old self.new (piece_text piece.entry) result }
+        ensures { Gathers (O.seen sink.old) (O.seen sink.new) self.old self.new
+            (piece_text piece.entry) result }
     {
         match piece {
             Piece::Text(text) => self.put(sink, text),
@@ -124,7 +125,8 @@ impl Page {
         sink: &mut O,
         pieces: &[Piece<'_>],
     ) -> Result<(), Failed>
-        ensures { Gathers (O.seen sink.old) (O.seen sink.new) self.old self.new (pieces_text pieces.now) result }
+        ensures { Gathers (O.seen sink.old) (O.seen sink.new) self.old self.new
+            (pieces_text pieces.now) result }
     {
         for piece in pieces {
             self.put_piece(sink, *piece)?;

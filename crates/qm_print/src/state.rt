@@ -60,7 +60,8 @@ fn add_whole_branch<A: Amps, O: Sink>(
 ) -> Result<(), Failed>
     requires { GoesOn (A.store amps.now).live branch.now [] }
     ensures { Gathers (O.seen sink.old) (O.seen sink.new) page.old page.new
-        (branch_lines (A.store amps.now).value branch.now.bits (wires_of branch.now.ones) []) result }
+        (branch_lines (A.store amps.now).value branch.now.bits
+        (wires_of branch.now.ones) []) result }
 {
     let numerator = amps.value(branch.ones());
     if numerator.is_zero() {
@@ -100,7 +101,8 @@ fn add_branches<A: Amps, O: Sink>(
 /// How many of the branches that go on from this one over more slots aren't zero.
 fn count_branches<A: Amps>(amps: &A, slots: &[Live], branch: &mut Branch) -> u64
     requires { GoesOn (A.store amps.now).live branch.old slots.now }
-    ensures count { result ≡ branch_count (A.store amps.now).value (wires_of branch.old.ones) slots.now }
+    ensures count { result
+        ≡ branch_count (A.store amps.now).value (wires_of branch.old.ones) slots.now }
     ensures few { result ≤ 2 ^ length slots.now }
     ensures back { branch.new ≡ branch.old }
 {

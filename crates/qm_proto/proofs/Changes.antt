@@ -6,17 +6,11 @@ use Rattle.qm_instr.specs.declared.Lane.{Lane}
 use Rattle.qm_instr.specs.Lanes.{is_lane}
 use Rattle.qm_instr.proofs.LaneOrder.{same_lane, lane_itself}
 use Rattle.qm_proto.specs.Model.State.{with_at, with_slot, with_lane}
+use Rattle.std.proofs.lemmas.Bool.{and_parts, eqb-true}
 
 -- ---- the tests
-pub same_number : (a b : ℕ) → nat_eq a b ≡ true → a ≡ b
-same_number a b e = elim (eqb_tells a b) [ inl h ↦ h.1 | inr h ↦ absurd (cc) ]
-
 pub number_itself : (a : ℕ) → nat_eq a a ≡ true
 number_itself a = elim (eqb_tells a a) [ inl h ↦ h.0 | inr h ↦ absurd (h.1 refl) ]
-
-pub both : (a b : Bool) → (a && b) ≡ true → (a ≡ true) × (b ≡ true)
-both true b e = (refl, e)
-both false b e = cc
 
 -- ---- what holds of a choice, as the test decides
 pub by_test : {A : Type 0} (P : A → Type 0) (b : Bool) (x y : A) → (b ≡ true → P x) → (b ≡ false → P y) → P (cond b x y)
@@ -34,7 +28,7 @@ by_number P r here there k = elim (eqb_tells k r) [ inl h ↦ subst P (sym h.1) 
 pub by_rank : {A : Type 0} (P : A → Type 0) (f : ℕ → A) (r : ℕ) (v : A) (k : ℕ)
     → (k ≡ r → P v) → (k ≢ r → P (f k)) → P (with_at f r v k)
 by_rank P f r v k at_place elsewhere =
-    by_test P (nat_eq k r) v (f k) (λ e. at_place (same_number k r e)) (λ e. elsewhere (not_itself nat_eq number_itself k r e))
+    by_test P (nat_eq k r) v (f k) (λ e. at_place (eqb-true k r e)) (λ e. elsewhere (not_itself nat_eq number_itself k r e))
 
 -- slot p of rank k is slot q of rank r
 pub record IsSlot (k p r q : ℕ) : Type 0 where
@@ -43,8 +37,8 @@ pub record IsSlot (k p r q : ℕ) : Type 0 where
 
 slot_test : (k p r q : ℕ) → (nat_eq k r && nat_eq p q) ≡ true → IsSlot k p r q
 slot_test k p r q e =
-    let h = both (nat_eq k r) (nat_eq p q) e in
-    record { rank = same_number k r h.0; slot = same_number p q h.1 }
+    let h = and_parts (nat_eq k r) (nat_eq p q) e in
+    record { rank = eqb-true k r h.0; slot = eqb-true p q h.1 }
 
 other_slot : (k p r q : ℕ) → (nat_eq k r && nat_eq p q) ≡ false → ¬ IsSlot k p r q
 other_slot k p r q e s =

@@ -1,11 +1,12 @@
 -- Which runs take the lowest enabled rank each time, as a test that computes
-use Rattle.std.proofs.Common.{◌≡◌, ℕ, zero, suc, ◌<◌, ◌⊎◌, Bool, true, false, not, ◌&&◌, nat_lt, List, [], ◌∷◌, length, refl, inl, inr, arith}
-use Rattle.std.proofs.lemmas.Bool.{ltb-true}
+use Rattle.std.proofs.Common.{◌≡◌, ℕ, zero, suc, ◌<◌, ◌⊎◌, Bool, true, false, not, ◌&&◌, nat_lt, List, [], ◌∷◌, length, inl, inr, arith}
+use Rattle.std.proofs.lemmas.Bool.{ltb-true, and_parts}
 use Rattle.qm_instr.specs.Programs.{Programs}
 use Rattle.qm_proto.specs.Model.State.{Tables, State}
 use Rattle.qm_proto.specs.Model.Runs.{enabled, IsAllowed, next_tables, next}
 use Rattle.qm_proto.specs.Model.Schedules.{state_at_start, tables_at_start, IsLegal, IsLegalFrom, IsFirst, IsFirstFrom, IsMeetingFrom}
 use Rattle.qm_proto.specs.Model.Ideal.{IdealState, ideal_enabled, ideal_next, ideal_at_start, IsOneFrom, IsOneRun}
+use Rattle.qm_denot.proofs.NameLists.{is_false}
 
 -- whether f is false below n
 abbrev pub none_below : (ℕ → Bool) → ℕ → Bool
@@ -29,23 +30,15 @@ is_meeting p rs = takes_lowest (enabled p) (next_tables p) (length p.ranks) (tab
 abbrev pub is_one_run : Programs → List ℕ → Bool
 is_one_run p rs = takes_lowest (λ s. ideal_enabled p s.tables) (ideal_next p) (length p.ranks) (ideal_at_start p) rs
 
-both_true : (a b : Bool) → (a && b) ≡ true → (a ≡ true) × (b ≡ true)
-both_true true b e = (refl, e)
-both_true false b e = cc
-
-not_true : (b : Bool) → not b ≡ true → b ≡ false
-not_true true e = cc
-not_true false e = refl
-
-same_or_below : (k n : ℕ) → k < suc n → (k ≡ n) ⊎ (k < n)
+pub same_or_below : (k n : ℕ) → k < suc n → (k ≡ n) ⊎ (k < n)
 same_or_below k n h = grind arith
 
 pub false_below : (f : ℕ → Bool) (n : ℕ) → none_below f n ≡ true → (k : ℕ) → k < n → f k ≡ false
 false_below f zero e k h = absurd (omega arith)
 false_below f (suc n) e k h =
-    let parts = both_true (not (f n)) (none_below f n) e in
+    let parts = and_parts (not (f n)) (none_below f n) e in
     elim (same_or_below k n h) [
-      | inl same ↦ rw same (not_true (f n) parts.0)
+      | inl same ↦ rw same (is_false (f n) parts.0)
       | inr below ↦ false_below f n parts.1 k below
     ]
 
@@ -57,14 +50,14 @@ record IsLowest (f : ℕ → Bool) (n r : ℕ) : Type 0 where
 
 lowest : (f : ℕ → Bool) (n r : ℕ) → is_lowest f n r ≡ true → IsLowest f n r
 lowest f n r e =
-    let outer = both_true (nat_lt r n) (f r && none_below f r) e in
-    let inner = both_true (f r) (none_below f r) outer.1 in
+    let outer = and_parts (nat_lt r n) (f r && none_below f r) e in
+    let inner = and_parts (f r) (none_below f r) outer.1 in
     record { known = ltb-true _ _ outer.0; able = inner.0; below = false_below f r inner.1 }
 
 meeting_from : (p : Programs) (t : Tables) (rs : List ℕ) → takes_lowest (enabled p) (next_tables p) (length p.ranks) t rs ≡ true → IsMeetingFrom p t rs
 meeting_from p t [] e = false_below (enabled p t) (length p.ranks) e
 meeting_from p t (r ∷ rs) e =
-    let parts = both_true (is_lowest (enabled p t) (length p.ranks) r) (takes_lowest (enabled p) (next_tables p) (length p.ranks) (next_tables p t r) rs) e in
+    let parts = and_parts (is_lowest (enabled p t) (length p.ranks) r) (takes_lowest (enabled p) (next_tables p) (length p.ranks) (next_tables p t r) rs) e in
     let first = lowest (enabled p t) (length p.ranks) r parts.0 in
     (record { known = first.known; able = first.able; below = first.below }, meeting_from p (next_tables p t r) rs parts.1)
 
@@ -76,7 +69,7 @@ one_from : (p : Programs) (s : IdealState) (rs : List ℕ)
 one_from p s [] e = false_below (ideal_enabled p s.tables) (length p.ranks) e
 one_from p s (r ∷ rs) e =
     let able : IdealState → ℕ → Bool = λ s. ideal_enabled p s.tables in
-    let parts = both_true (is_lowest (able s) (length p.ranks) r) (takes_lowest able (ideal_next p) (length p.ranks) (ideal_next p s r) rs) e in
+    let parts = and_parts (is_lowest (able s) (length p.ranks) r) (takes_lowest able (ideal_next p) (length p.ranks) (ideal_next p s r) rs) e in
     let first = lowest (able s) (length p.ranks) r parts.0 in
     (record { known = first.known; able = first.able; below = first.below }, one_from p (ideal_next p s r) rs parts.1)
 

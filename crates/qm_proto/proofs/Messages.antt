@@ -10,7 +10,7 @@ use Rattle.qm_denot.proofs.Listed.{shows}
 use Rattle.qm_proto.specs.WorkedMessages.{q, f, exchanged, WorkedMessages}
 
 -- the second of two numbers
-second : (a b c d : Number) → a ∷ b ∷ [] ≡ c ∷ d ∷ [] → b ≡ d
+pub second : (a b c d : Number) → a ∷ b ∷ [] ≡ c ∷ d ∷ [] → b ≡ d
 second a b c d e = cc
 
 exchange : Shows (Flip q ∷ exchanged true false) (f ∷ []) (one_number ∷ zero_number ∷ []) 2

@@ -21,6 +21,7 @@ use Rattle.qm_proto.specs.Model.Schedules.{tables_at_start, replay, with_buffers
 use Rattle.std.specs.List.{fold}
 use Rattle.qm_proto.proofs.Meetings.{meeting, false_below}
 use Rattle.qm_proto.proofs.Firsts.{meeting_unique}
+use Rattle.qm_proto.proofs.Messages.{second}
 
 -- the run with buffers of one, of the crossed copies: both ranks make their qubit, and neither pair may be prepared
 abbrev crossed_ones : Programs
@@ -83,9 +84,6 @@ one_is_not_zero : one_number ≢ zero_number
 one_is_not_zero e = let parts : pos 1 ≡ pos 0 = ap (λ (z : Number). z.a) e in cc
 
 -- the second of two numbers
-second : (a b c d : Number) → a ∷ b ∷ [] ≡ c ∷ d ∷ [] → b ≡ d
-second a b c d e = cc
-
 -- a new qubit is nowhere one
 zero_where_one : (x : Wires) → has x q ≡ true → amp [] x ≡ zero_number
 unfolding amp

@@ -83,4 +83,5 @@ pub record WorkedRefusals : Type 0 where
   pub differs_first : (g : Circuit) → Fails g (Equal f q)
       → IsRefused not_equal_programs (with_circuit not_equal_programs (0 ∷ 0 ∷ 0 ∷ 0 ∷ 1 ∷ 1 ∷ 1 ∷ []) g) 1 cause.NotEqual
   -- numbers that don't fit are refused at a Hadamard
-  pub overflow : (g : Circuit) → Fails g (Fits q) → IsRefused (copy_programs true) (with_circuit (copy_programs true) (0 ∷ []) g) 0 cause.Overflow
+  pub overflow : (g : Circuit) → Fails g (Fits q)
+      → IsRefused (copy_programs true) (with_circuit (copy_programs true) (0 ∷ []) g) 0 cause.Overflow

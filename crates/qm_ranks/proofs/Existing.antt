@@ -1,19 +1,18 @@
 -- For all programs and words there is an order of turns
-use Rattle.std.proofs.Common.{◌≡◌, ◌∙◌, ℕ, ◌+◌, ◌%◌, ◌<◌, ◌≤◌, ◌⊎◌, inl, inr, Bool, true, false, List, [], ◌∷◌, ◌++◌, length, Option, Some, None, is_some, zero, suc, refl, sym, ap, subst, length-append, arith}
+use Rattle.std.proofs.Common.{◌≡◌, ℕ, ◌+◌, ◌<◌, ◌≤◌, ◌⊎◌, inl, inr, true, false, List, [], ◌∷◌, ◌++◌, length, zero, suc, refl, sym, subst, length-append, arith}
 use Rattle.std.proofs.Math.Nat.{mod-lt}
 use Rattle.qm_instr.specs.Programs.{Programs}
-use Rattle.qm_proto.specs.declared.Cause.{Cause}
-use Rattle.qm_proto.specs.declared.Row.{Row}
 use Rattle.qm_proto.specs.Model.State.{Tables, State}
-use Rattle.qm_proto.specs.Model.Runs.{enabled, has_event, row_checks, row_holds, row_next, IsAllowed, IsRefused, next}
+use Rattle.qm_proto.specs.Model.Runs.{enabled, row_checks, row_next, IsAllowed}
 use Rattle.qm_proto.specs.Model.Schedules.{replay, IsLegal, MayStep, NoneEnabled}
 use Rattle.qm_proto.specs.Model.Orders.{Words, words_after, start_of, rank_on, IsFirstAround, IsEndAround, IsOrderFrom}
 use Rattle.qm_proto.proofs.Replays.{replay-push, legal-push}
 use Rattle.qm_runs.specs.Tables.Totals.{event_total}
-use Rattle.qm_runs.proofs.Tables.Counting.{schedule_more}
+use Rattle.qm_runs.proofs.Tables.Counting.{schedule_more, event_where_held}
 use Rattle.qm_runs.proofs.Endings.Tests.{tests_fail_or_not}
 use Rattle.qm_ranks.proofs.Around.{comes_to}
 use Rattle.qm_ranks.proofs.Orders.{around_known}
+use Rattle.qm_proto.proofs.Meetings.{same_or_below}
 
 -- ---- whose turn it is
 module _ (p : Programs) (t : Tables) (start : ℕ) where
@@ -25,12 +24,9 @@ module _ (p : Programs) (t : Tables) (start : ℕ) where
     | inr none ↦ elim (enabled p t (rank_on p start n)) as (λ b. enabled p t (rank_on p start n) ≡ b
         → ((r : ℕ) × IsFirstAround p t start r) ⊎ ((k : ℕ) → k < suc n → enabled p t (rank_on p start k) ≡ false)) [
           | true ↦ λ able. inl (rank_on p start n, record { steps = n; few = omega arith; place = refl; able = able; before = none })
-          | false ↦ λ unable. inr (λ k less. elim (here_or_before k n less) [ inl same ↦ (subst (λ j. enabled p t (rank_on p start j) ≡ false) (sym same) unable) | inr lower ↦ none k lower ])
+          | false ↦ λ unable. inr (λ k less. elim (same_or_below k n less) [ inl same ↦ (subst (λ j. enabled p t (rank_on p start j) ≡ false) (sym same) unable) | inr lower ↦ none k lower ])
         ] refl
   ]
-    where
-      here_or_before : (k n : ℕ) → k < suc n → (k ≡ n) ⊎ (k < n)
-      here_or_before k n less = grind arith
 
   first_or_none : start < length p.ranks → ((r : ℕ) × IsFirstAround p t start r) ⊎ NoneEnabled p t
   first_or_none known = elim (search_around (length p.ranks) (omega arith)) [
@@ -41,10 +37,6 @@ module _ (p : Programs) (t : Tables) (start : ℕ) where
   ]
 
 -- a rank that is enabled has an event left
-pub row_there : (p : Programs) (t : Tables) (o : Option Row) → row_holds p t o ≡ true → is_some o ≡ true
-row_there p t None able = cc
-row_there p t (Some w) able = refl
-
 -- without ranks none is enabled
 no_ranks : (p : Programs) (t : Tables) → length p.ranks ≡ 0 → NoneEnabled p t
 no_ranks p t none r known = absurd (omega arith)
@@ -71,7 +63,7 @@ order_exists p zero before w legal few = elim (turn_or_end p (replay p before) w
   | inr ended ↦ ([], ended)
   | inl (r, on) ↦ absurd (
       let known = around_known p (replay p before).tables (start_of p w) r on.0 in
-      let less = schedule_more p before r legal known (row_there p (replay p before).tables (row_next p (replay p before).tables r) on.0.able) in
+      let less = schedule_more p before r legal known (event_where_held p (replay p before).tables (row_next p (replay p before).tables r) on.0.able) in
       let f : ⊥ = omega arith in f)
 ]
 order_exists p (suc left) before w legal few = elim (turn_or_end p (replay p before) w) [

@@ -1,15 +1,14 @@
 -- Orders of turns are determined by their words, are legal, and by words that are all 0 take the lowest enabled rank
-use Rattle.std.proofs.Common.{◌≡◌, ◌∙◌, ℕ, ◌+◌, ◌%◌, ◌<◌, ◌≤◌, ◌⊎◌, ◌↔◌, inl, inr, true, false, List, [], ◌∷◌, ◌++◌, length, zero, suc, refl, sym, ap, subst, append-nil, append_assoc, length-append, arith}
+use Rattle.std.proofs.Common.{◌≡◌, ◌∙◌, ℕ, ◌+◌, ◌%◌, ◌<◌, ◌⊎◌, inl, inr, false, List, [], ◌∷◌, ◌++◌, length, suc, refl, sym, ap, subst, append-nil, append_assoc, arith}
 use Rattle.std.proofs.Math.Nat.{mod-eq_of_lt, mod-lt}
 use Rattle.qm_instr.specs.Programs.{Programs}
-use Rattle.qm_proto.specs.declared.Cause.{Cause}
 use Rattle.qm_proto.specs.Model.State.{Tables, State}
 use Rattle.qm_proto.specs.Model.Runs.{enabled, IsAllowed, IsRefused, next}
-use Rattle.qm_proto.specs.Model.Schedules.{replay, IsLegal, MayStep, NoneEnabled, IsLowestEnabled, IsFirstEnd, IsFirstFrom}
-use Rattle.qm_proto.specs.Model.Orders.{Words, words_after, start_of, rank_on, IsFirstAround, IsEndAround, IsOrderFrom, from_the_lowest}
+use Rattle.qm_proto.specs.Model.Schedules.{replay, IsLegal, MayStep, IsLowestEnabled, IsFirstFrom}
+use Rattle.qm_proto.specs.Model.Orders.{words_after, start_of, rank_on, IsFirstAround, IsEndAround, IsOrderFrom, from_the_lowest}
 use Rattle.qm_proto.proofs.Firsts.{refused_or_allowed}
 use Rattle.qm_proto.proofs.Replays.{replay-push, legal-push}
-use Rattle.qm_ranks.specs.Laws.{OneOrder, LowestOrder, GoesOnLegally, LegalOrder}
+use Rattle.qm_ranks.specs.Laws.{OneOrder, LowestOrder, LegalOrder}
 
 -- ---- one order
 one_place : (j k : ℕ) → (j ≡ k) ⊎ ((j < k) ⊎ (k < j))

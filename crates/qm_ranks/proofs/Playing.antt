@@ -1,5 +1,5 @@
 -- What the turns of a run come to
-use Rattle.std.proofs.Common.{◌≡◌, ◌≢◌, ◌∙◌, ℕ, ◌+◌, ◌%◌, List, [], ◌∷◌, ◌++◌, length, None, suc, refl, sym, ap, subst, true, false, Bool, append_assoc, append-nil, length-append, arith}
+use Rattle.std.proofs.Common.{◌≡◌, ◌≢◌, ◌∙◌, ◌<◌, ℕ, ◌+◌, ◌-◌, ◌%◌, List, [], ◌∷◌, ◌++◌, length, None, suc, refl, sym, ap, subst, true, false, Bool, append_assoc, append-nil, length-append, arith}
 use Rattle.qm_denot.specs.Stores.{Store}
 use Rattle.qm_instr.specs.Programs.{Programs}
 use Rattle.qm_proto.specs.Model.State.{State}
@@ -32,6 +32,15 @@ nothing_played store old words = record {
   used = λ k. let e : 0 + k ≡ k = omega arith in sym (ap words e);
   order = λ rest h. h;
 }
+
+-- a turn in which a rank was stepped leaves fewer entries to come
+pub fewer_left : {A : Type 0} (store : A → Store) (m n : MachineView A) (start : ℕ) (went : Bool) → Turns store m start n went → went ≡ true → 500001 - length n.schedule < 500001 - length m.schedule
+fewer_left store m n start true (Goes w) e =
+    let short = w.short in
+    let long : length n.schedule ≡ length m.schedule + 1 = ap length w.schedule ∙ length-append m.schedule (w.rank ∷ []) in
+    omega arith
+fewer_left store m n start false (Stands s) e = cc
+fewer_left store m n start false (Stays halted same) e = cc
 
 module _ {A : Type 0} (store : A → Store) (old m n : MachineView A) (words left : Words) (h : PlaysSoFar store old m words left) where
   -- the state that one entry more leaves

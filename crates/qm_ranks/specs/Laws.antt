@@ -19,7 +19,9 @@ pub record GoesOnLegally (p : Programs) (before more : List ℕ) (w : Words) : T
   pub ended : IsEndAround p (replay p (before ++ more)) (w (length more) % length p.ranks)
 
 abbrev pub LegalOrder : Type 0
-LegalOrder = (p : Programs) (before more : List ℕ) (w : Words) → IsLegal p before → IsOrderFrom p (replay p before) w more → GoesOnLegally p before more w
+LegalOrder =
+    (p : Programs) (before more : List ℕ) (w : Words)
+    → IsLegal p before → IsOrderFrom p (replay p before) w more → GoesOnLegally p before more w
 
 -- for all words there is a run from the end of a legal schedule
 abbrev pub SomeOrder : Type 0

@@ -10,7 +10,8 @@ use Rattle.qm_machine.specs.Keeps.{MachineView, HasEnded, IsSame, state_of}
 -- stands at the schedule's end
 pub data IsOver {A : Type 0} (m : MachineView A) (start : ℕ) : Type 0 where
   Ended : HasEnded m → IsOver m start
-  Stopped : (h : Halt) → m.halted ≡ Some h → h.turns ≡ length m.schedule → StopsAround m.programs (state_of m) start h.rank h.cause → IsOver m start
+  Stopped : (h : Halt) → m.halted ≡ Some h → h.turns ≡ length m.schedule
+      → StopsAround m.programs (state_of m) start h.rank h.cause → IsOver m start
 
 -- a machine that wasn't halted went on by these entries, in the order of the words, to its end
 pub record GoesOn {A : Type 0} (old new : MachineView A) (words : Words) : Type 0 where

@@ -3,7 +3,7 @@
 
 ghost use Rattle.std.specs.Prelude.{◌%◌, length};
 ghost use Rattle.qm_proto.specs.Model.Orders.{from_the_lowest};
-ghost use Rattle.qm_ranks.specs.Seeds.{seed_words};
+ghost use Rattle.qm_seed.specs.Seeds.{seed_words};
 ghost use Rattle.qm_ranks.specs.Plays.{Plays, Turns};
 
 pub mod laws;
@@ -12,8 +12,7 @@ mod tests;
 
 use qm_denot::Amps;
 use qm_machine::{Machine, Step};
-use rand_core::utils::NextWord;
-use rand_pcg::Lcg64Xsh32;
+use qm_seed::SeedWords;
 
 /// Steps the ranks one after another, in their cyclic order from the word modulo their number on, until one did an event or halted the
 /// machine. Whether one did an event; if not, the machine is at its end.
@@ -46,13 +45,13 @@ pub fn play_order<A: Amps>(machine: &mut Machine<A>)
 
 /// Steps a rank that a seed chooses, again and again, until no rank has an event left or the machine is halted.
 ///
-/// A generator `Lcg64Xsh32::new(seed, 1)` gives one word for each turn; the rank that is stepped is the first one that is neither ended
-/// nor blocked, in the cyclic order of the ranks from the word modulo their number on. The machine may have any schedule so far. A
-/// machine that is halted stays as it is.
+/// The seed gives one word for each turn; the rank that is stepped is the first one that is neither ended nor blocked, in the cyclic
+/// order of the ranks from the word modulo their number on. The machine may have any schedule so far. A machine that is halted stays as
+/// it is.
 pub fn play_seed<A: Amps>(machine: &mut Machine<A>, seed: u64)
     requires { A.able }
     ensures { Plays A.store machine.old machine.new (seed_words seed) }
 {
-    let mut generator = Lcg64Xsh32::new(seed, 1);
-    while turn(machine, generator.next_word()) {}
+    let mut words = SeedWords::start(seed);
+    while turn(machine, words.draw()) {}
 }

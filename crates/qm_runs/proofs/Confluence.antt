@@ -13,3 +13,4 @@ pub mod Diamond
 pub mod Confluent
 pub mod ProperLetters
 pub mod NamedWires
+pub mod Placeless

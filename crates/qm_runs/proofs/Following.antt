@@ -9,9 +9,11 @@ pub mod LocalTests
 pub mod SeenLaws
 pub mod UndoLinks
 pub mod Opens
+pub mod ReachChains
 pub mod ReachLinks
 pub mod Stood
 pub mod Lending
+pub mod SafeDebts
 pub mod Safe
 pub mod Frames
 pub mod Agreeing
@@ -24,6 +26,7 @@ pub mod Receives
 pub mod Givings
 pub mod SeenSteps
 pub mod Enabling
+pub mod RawChanges
 pub mod RawSteps
 pub mod Follow
 pub mod Beside
@@ -31,6 +34,7 @@ pub mod FollowsIdeal
 pub mod Outcomes
 pub mod Ends
 pub mod Complete
+pub mod Leftover
 pub mod Engaged
 pub mod RawWires
 pub mod BegunAfter

@@ -2,3 +2,4 @@
 pub mod NeverStuck
 pub mod LanesEmpty
 pub mod Rendezvous
+pub mod Shapes

@@ -245,5 +245,6 @@ impl Amps for ScaledAmps {
         self.numerators[index_at(&self.live, ones)]
     }
 
-    ghost sound = { λ s. listed_sound s.capacity s.live.items s.exponent s.numerators.items s.few s.kept };
+    ghost sound = { λ s. listed_sound s.capacity s.live.items s.exponent s.numerators.items
+        s.few s.kept };
 }

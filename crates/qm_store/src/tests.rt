@@ -113,7 +113,8 @@ fn run<A: Amps>(rt: &impl Abort, amps: &mut A, wires: &[Wire], letters: &[Letter
 fn are_live<A: Amps>(amps: &A, u: Wire, v: Wire, w: Wire) -> bool
     ensures { result ≡ true
         → (u ≢ v) × (u ≢ w) × (v ≢ w)
-        × Contains (A.store amps.now).live u × Contains (A.store amps.now).live v × Contains (A.store amps.now).live w }
+        × Contains (A.store amps.now).live u × Contains (A.store amps.now).live v
+        × Contains (A.store amps.now).live w }
 {
     u != v && u != w && v != w && is_live(amps, u) && is_live(amps, v) && is_live(amps, w)
 }

@@ -1,29 +1,34 @@
 -- One status and one text alone is due for words and a text
-use Rattle.std.proofs.Common.{◌≡◌, ℕ, ◌+◌, ◌<◌, ◌≤◌, ◌↔◌, Bool, true, false, IsTrue, if◌then◌else◌, List, Option, Some, None, length, ◌⊎◌, inl, inr, refl, sym, ap, subst, ◌∙◌, arith}
+use Rattle.std.proofs.Common.{◌≡◌, ℕ, ◌+◌, ◌<◌, ◌≤◌, ◌↔◌, Bool, true, false, IsTrue, if◌then◌else◌, List, [], Option, Some, None, length, ◌⊎◌, inl, inr, refl, sym, ap, subst, ◌∙◌, arith}
 use mathlib.Core.Path.{fun_ext}
 use Rattle.qm_denot.specs.declared.Wire.{Wire}
 use Rattle.qm_denot.specs.Circuits.{Amplitudes, Circuit}
 use Rattle.qm_denot.proofs.Unique.{one_form}
 use Rattle.qm_instr.specs.Programs.{Programs}
-use Rattle.qm_proto.specs.Model.Schedules.{protocol_total, RendezvousEnds}
+use Rattle.qm_proto.specs.Model.Schedules.{replay, protocol_total, RendezvousEnds}
 use Rattle.qm_proto.specs.Model.Ideal.{ideal_replay}
 use Rattle.qm_proto.proofs.Firsts.{one_run_unique}
-use Rattle.qm_ideal.specs.OneCircuits.{OneView, IsOneCircuit, EndsEarly}
+use Rattle.qm_ideal.specs.OneCircuits.{OneView, IsOneCircuit}
 use Rattle.qm_eval.specs.Overflows.{IsFirstOverflow, NeverOverflows}
 use Rattle.qm_tool.specs.declared.command.Command.{Command}
 use Rattle.qm_tool.specs.declared.command.Command.TheVariants as command
+use Rattle.qm_tool.specs.declared.command.Making.{Making}
+use Rattle.qm_tool.specs.declared.command.Making.TheVariants as making
 use Rattle.qm_tool.specs.declared.command.Play.{Play}
+use Rattle.qm_tool.specs.declared.command.Recipe.{Recipe}
 use Rattle.qm_print.specs.declared.FaultLine.TheVariants as line
 use Rattle.qm_tool.specs.declared.status.Status.{Status}
 use Rattle.qm_tool.specs.declared.status.Status.TheVariants as status
-use Rattle.qm_tool.specs.Commands.{command_of, order_of, block_of}
-use Rattle.qm_tool.specs.Dues.{IsDue}
+use Rattle.qm_tool.specs.Commands.{command_of, making_of, order_of, block_of, kind_word, recipe_text}
+use Rattle.qm_tool.specs.Dues.{Lowest}
 use Rattle.qm_print.specs.CheckText.{check_text}
 use Rattle.qm_print.specs.FaultText.{fault_text}
 use Rattle.qm_print.specs.Slots.{full_slots}
-use Rattle.qm_print.specs.StateText.{state_lines, IsStateText}
-use Rattle.qm_ideal.specs.OneCircuits.{number_of_bits}
-use Rattle.qm_tool.specs.Due.{most_wires, OnReady, ReadsReady, IsTextAfter, IsOneText, RunsTo, RefusedWith, IsCircuitText, WaitsWith, IsAmplitudesText, WideWith, OverflowsWith, IsCheckText, AnswersReady, DueOf, NoCommand, TooMuch, Whole, OneAnswer}
+use Rattle.qm_print.specs.JobText.{job_text}
+use Rattle.qm_print.specs.StateText.{line_count, state_lines, IsStateText}
+use Rattle.qm_bits.specs.Numbers.{number_of_bits}
+use Rattle.qm_tool.specs.Due.{most_wires, OnReady, IsTextAfter, IsOneText, RunsTo, RefusedWith, IsCircuitText, WaitsWith, IsAmplitudesText, WideWith, OverflowsWith, IsCheckText, AnswersReady, IsJobText, JobRunsTo, WorksTo, DueOf, DueOfMaking, NoCommand, Makes, TooMuch, Whole, OneAnswer}
+use Rattle.qm_tool.proofs.CommandLemmas.{never_both}
 use Rattle.qm_tool.proofs.DueLemmas.{one_due}
 use Rattle.qm_tool.proofs.EndLemmas.{same_circuit_text}
 use Rattle.qm_tool.proofs.OneViews.{same_width, same_letters, ends_or_early, same_left}
@@ -192,22 +197,80 @@ module _ (c : Command) (text : List ℕ) where
   Way-one s s' a b (Goes q x e) (Refuses y f) = absurd (ready_or_refused text e.programs f.fault e.reads f.refused)
   Way-one s s' a b (Goes q x e) (Goes t y f) = ready_one q t x y e f
 
+-- ---- a made program has one answer
+module _ (r : Recipe) where
+  IsJobText-one : (p : Programs) (schedule a b : List ℕ) → IsJobText r p schedule a → IsJobText r p schedule b → a ≡ b
+  IsJobText-one p schedule a b s t =
+      let left = replay p schedule in
+      let same = one_form s.numerators t.numerators s.exponent t.exponent left.circuit s.form t.form in
+      let with_form : ℕ → Amplitudes → List ℕ =
+      λ k u. job_text (kind_word r.kind)
+      (record { size = r.size; number = r.number; events = length schedule; protocol = protocol_total p; scale = k; lines = line_count u (full_slots p left.tables.slots) }) in
+      s.whole ∙ ap (with_form s.exponent) (fun_ext same.1) ∙ ap (λ k. with_form k t.numerators) same.0 ∙ sym t.whole
+
+  JobRunsTo-one : (p : Programs) (ok so : Bool) (a b : List ℕ) → JobRunsTo ok r p a → JobRunsTo so r p b → (ok ≡ so) × (a ≡ b)
+  JobRunsTo-one p ok so a b e f = one_due p Lowest (IsJobText r p) (λ schedule. []) (IsJobText-one p) a b ok so e.due f.due
+
+  WorksTo-one : (ok so : Bool) (a b : List ℕ) → WorksTo ok r a → WorksTo so r b → (ok ≡ so) × (a ≡ b)
+  WorksTo-one ok so a b e f =
+      let same = ReadsReady-one (recipe_text r) f.programs e.programs f.reads e.reads in
+      JobRunsTo-one e.programs ok so a b e.so (subst (λ (p : Programs). JobRunsTo so r p b) same f.so)
+
+  data GenWay : Status → List ℕ → Type 0 where
+    Gives : (bytes : List ℕ) → bytes ≡ recipe_text r → GenWay status.Ok bytes
+
+  data JobWay : Status → List ℕ → Type 0 where
+    Works : (complete : Bool) (bytes : List ℕ) → WorksTo complete r bytes → JobWay (status_of_run complete) bytes
+
+  gen_way : (s : Status) (bytes : List ℕ) → DueOfMaking (making.Gen r) s bytes → GenWay s bytes
+  gen_way status.Ok bytes d = Gives bytes d
+  gen_way s bytes d = absurd d
+
+  job_way : (s : Status) (bytes : List ℕ) → DueOfMaking (making.Job r) s bytes → JobWay s bytes
+  job_way status.Ok bytes d = Works true bytes d
+  job_way status.Stopped bytes d = Works false bytes d
+  job_way s bytes d = absurd d
+
+  GenWay-one : (s s' : Status) (a b : List ℕ) → GenWay s a → GenWay s' b → (s ≡ s') × (a ≡ b)
+  GenWay-one s s' a b (Gives x e) (Gives y f) = (refl, e ∙ sym f)
+
+  JobWay-one : (s s' : Status) (a b : List ℕ) → JobWay s a → JobWay s' b → (s ≡ s') × (a ≡ b)
+  JobWay-one s s' a b (Works ok x e) (Works so y f) = let one = WorksTo-one ok so x y e f in (ap status_of_run one.0, one.1)
+
+pub DueOfMaking-one : (m : Making) (s s' : Status) (a b : List ℕ) → DueOfMaking m s a → DueOfMaking m s' b → (s ≡ s') × (a ≡ b)
+DueOfMaking-one (making.Gen r) s s' a b d e = GenWay-one r s s' a b (gen_way r s a d) (gen_way r s' b e)
+DueOfMaking-one (making.Job r) s s' a b d e = JobWay-one r s s' a b (job_way r s a d) (job_way r s' b e)
+
 -- ---- one answer
 module _ (words : List (List ℕ)) where
   none_or_some : (c : Command) → command_of words ≡ None → command_of words ≡ Some c → ⊥
   none_or_some c e f = cc
 
-  one_command : (c d : Command) → command_of words ≡ Some c → command_of words ≡ Some d → d ≡ c
+  pub one_command : (c d : Command) → command_of words ≡ Some c → command_of words ≡ Some d → d ≡ c
   one_command c d e f = cc
+
+  none_or_made : (m : Making) → making_of words ≡ None → making_of words ≡ Some m → ⊥
+  none_or_made m e f = cc
+
+  pub one_making : (m n : Making) → making_of words ≡ Some m → making_of words ≡ Some n → n ≡ m
+  one_making m n e f = cc
 
 pub Due-one : OneAnswer
 Due-one words text s s' a b (NoCommand e) (NoCommand f) = (refl, refl)
-Due-one words text s s' a b (NoCommand e) (TooMuch c f long) = absurd (none_or_some words c e f)
-Due-one words text s s' a b (NoCommand e) (Whole c t x f short d) = absurd (none_or_some words c e f)
-Due-one words text s s' a b (TooMuch c e long) (NoCommand f) = absurd (none_or_some words c f e)
+Due-one words text s s' a b (NoCommand e) (Makes m t x f d) = absurd (none_or_made words m e.makes_none f)
+Due-one words text s s' a b (NoCommand e) (TooMuch c f long) = absurd (none_or_some words c e.reads_none f)
+Due-one words text s s' a b (NoCommand e) (Whole c t x f short d) = absurd (none_or_some words c e.reads_none f)
+Due-one words text s s' a b (Makes m t x e d) (NoCommand f) = absurd (none_or_made words m f.makes_none e)
+Due-one words text s s' a b (Makes m t x e d) (Makes m' t' x' f d') =
+    DueOfMaking-one m t t' x x' d (subst (λ (k : Making). DueOfMaking k t' x') (one_making words m m' e f) d')
+Due-one words text s s' a b (Makes m t x e d) (TooMuch c f long) = absurd (never_both words m c e f)
+Due-one words text s s' a b (Makes m t x e d) (Whole c t' x' f short d') = absurd (never_both words m c e f)
+Due-one words text s s' a b (TooMuch c e long) (NoCommand f) = absurd (none_or_some words c f.reads_none e)
+Due-one words text s s' a b (TooMuch c e long) (Makes m t x f d) = absurd (never_both words m c f e)
 Due-one words text s s' a b (TooMuch c e long) (TooMuch c' f long') = (refl, refl)
 Due-one words text s s' a b (TooMuch c e long) (Whole c' t x f short d) = absurd (omega arith)
-Due-one words text s s' a b (Whole c t x e short d) (NoCommand f) = absurd (none_or_some words c f e)
+Due-one words text s s' a b (Whole c t x e short d) (NoCommand f) = absurd (none_or_some words c f.reads_none e)
+Due-one words text s s' a b (Whole c t x e short d) (Makes m t' x' f d') = absurd (never_both words m c f e)
 Due-one words text s s' a b (Whole c t x e short d) (TooMuch c' f long) = absurd (omega arith)
 Due-one words text s s' a b (Whole c t x e short d) (Whole c' t' x' f short' d') =
     let same : c' ≡ c = one_command words c c' e f in

@@ -1,5 +1,5 @@
 -- What an answer is due for, from the programs, the text and the source
-use Rattle.std.proofs.Common.{◌≡◌, ℕ, ◌+◌, ◌<◌, ◌≤◌, ◌⊎◌, ◌↔◌, inl, inr, Bool, true, false, IsTrue, List, [], ◌∷◌, ◌++◌, length, Option, Some, None, Result, Ok, Err, IfOk, refl, sym, ap, subst, ◌∙◌, arith, codes}
+use Rattle.std.proofs.Common.{◌≡◌, ℕ, ◌+◌, ◌≤◌, Bool, true, false, List, [], ◌++◌, length, Option, Some, Result, Ok, Err, IfOk, refl, sym, ap, subst, ◌∙◌, codes}
 use Rattle.std.proofs.Math.Nat.{add-zero}
 use Rattle.std.specs.declared.alloc.AllocError.{AllocError}
 use mathlib.Core.Path.{fun_ext}
@@ -12,28 +12,26 @@ use Rattle.qm_io.specs.Ends.{SinkView, SourceView, Took, Broke}
 use Rattle.qm_io.specs.Intake.{GaveAll, GaveMore, FailedOnce, Takes}
 use Rattle.qm_io.specs.declared.intake.TextError.{TextError}
 use Rattle.qm_io.specs.declared.intake.TextError.TheVariants as error
-use Rattle.qm_machine.specs.declared.Halt.{Halt}
-use Rattle.qm_machine.specs.Keeps.{MachineView, HasEnded, state_of}
+use Rattle.qm_machine.specs.Keeps.{state_of}
 use Rattle.qm_proto.specs.Model.Ideal.{IdealTables, ideal_replay}
-use Rattle.qm_proto.specs.Model.Schedules.{protocol_total, RendezvousEnds}
+use Rattle.qm_proto.specs.Model.Schedules.{protocol_total}
 use Rattle.qm_ideal.specs.declared.MonoError.{MonoError}
 use Rattle.qm_ideal.specs.declared.MonoError.TheVariants as mono_error
-use Rattle.qm_ideal.specs.OneCircuits.{OneView, IsOneCircuit, Explains, bits_of, slot_of, number_of_bits}
+use Rattle.qm_bits.specs.Numbers.{number_of_bits}
+use Rattle.qm_ideal.specs.OneCircuits.{OneView, IsOneCircuit, Explains, bits_of, slot_of}
 use Rattle.qm_eval.specs.Holding.{HoldsCircuit}
-use Rattle.qm_eval.specs.Overflows.{IsFirstOverflow}
 use Rattle.qm_print.specs.declared.FaultLine.{FaultLine}
 use Rattle.qm_print.specs.declared.FaultLine.TheVariants as line
 use Rattle.qm_print.specs.declared.Head.{Head}
 use Rattle.qm_print.specs.declared.Live.{Live}
-use Rattle.qm_print.specs.FaultText.{fault_text, stopped_line}
-use Rattle.qm_print.specs.Bits.{bits_lines}
+use Rattle.qm_print.specs.FaultText.{fault_text}
 use Rattle.qm_print.specs.Slots.{full_slots, slots_text}
 use Rattle.qm_print.specs.StateText.{branch_lines, head_lines, state_lines}
 use Rattle.qm_tool.specs.declared.answer.Answer.{Answer}
 use Rattle.qm_tool.specs.declared.answer.Answer.TheVariants as answer
-use Rattle.qm_tool.specs.declared.circuits.Amplitudes.{Amplitudes}
 use Rattle.qm_tool.specs.declared.command.Command.{Command}
 use Rattle.qm_tool.specs.declared.command.Command.TheVariants as command
+use Rattle.qm_tool.specs.declared.command.Making.{Making}
 use Rattle.qm_tool.specs.declared.command.Play.{Play}
 use Rattle.qm_tool.specs.declared.reading.Unread.{Unread}
 use Rattle.qm_tool.specs.declared.reading.Unread.TheVariants as unread
@@ -41,14 +39,15 @@ use Rattle.qm_tool.specs.Reading as unread_specs
 use Rattle.qm_tool.specs.declared.running.Run.{Run}
 use Rattle.qm_tool.specs.declared.status.Status.{Status}
 use Rattle.qm_tool.specs.declared.status.Status.TheVariants as status
-use Rattle.qm_tool.specs.Commands.{command_of, order_of, block_of}
-use Rattle.qm_tool.specs.Dues.{IsDue, Completes, StopsShort, HaltStops}
-use Rattle.qm_tool.specs.Due.{OnReady, ReadsReady, IsRefusedFor, RefusedWith, IsTextAfter, RunsTo, IsOneText, IsCircuitText, WaitsWith, IsAmplitudesText, WideWith, OverflowsWith, IsCheckText, most_wires, AnswersReady, DueOf}
-use Rattle.qm_tool.specs.Calls.{Text, Ends, Whole, Broken}
+use Rattle.qm_tool.specs.Commands.{command_of, making_of, order_of, block_of}
+use Rattle.qm_tool.specs.Dues.{IsDue}
+use Rattle.qm_tool.specs.Due.{OnReady, ReadsReady, IsRefusedFor, RefusedWith, IsTextAfter, RunsTo, IsOneText, WaitsWith, IsAmplitudesText, most_wires, AnswersReady, DueOf}
+use Rattle.qm_tool.specs.Calls.{Made, Text, Ends, Whole, Broken}
 use Rattle.qm_tool.specs.Ends.{HeadSays, bits_in, text_under}
-use Rattle.qm_tool.specs.Running.{IsRun, IsStopOf, status_where, text_where, end_text, run_status, run_text}
-use Rattle.qm_tool.specs.Answers.{status_of, text_of, AnswersPrograms, AnswersText, AnswersSource, Concludes}
-use Rattle.qm_tool.specs.Statuses.{status_of_fault}
+use Rattle.qm_tool.specs.Running.{IsRun, text_where, run_status, run_text}
+use Rattle.qm_tool.specs.Answers.{status_of, text_of, AnswersPrograms, AnswersText, AnswersMaking, AnswersSource, Concludes}
+use Rattle.qm_tool.proofs.AnswerLaws.{status_of_run}
+use Rattle.qm_tool.proofs.RunLemmas.{run_due}
 use Rattle.qm_tool.proofs.EndLemmas.{HeadSays-text, bits_lines-same}
 use Rattle.qm_tool.proofs.ReadingLaws.{IsRefusedFor-status}
 
@@ -57,63 +56,36 @@ module _ {A : Type 0} (store : A → Store) (play : Play) (p : Programs) (run : 
   abbrev state_text : List ℕ
   state_text = text_under run.head run.live.items (store run.machine.amps).value
 
-  abbrev block : List ℕ
-  block = block_of run.play run.machine.programs run.machine.schedule
+  state_at_end : IsTextAfter run.machine.programs run.machine.schedule state_text
+  state_at_end =
+      let m = run.machine in
+      let s = store m.amps in
+      record {
+        numerators = s.value;
+        exponent = s.exponent;
+        form = on.stands.form;
+        lines = HeadSays-text m.programs (bits_in m) s.exponent run.head run.live.items _ s.value on.head on.slots
+            ∙ ap (λ k. state_lines (length m.programs.ranks) (protocol_total m.programs) k (λ r. number_of_bits (bits_in m r)) (full_slots m.programs (state_of m).tables.slots) s.value)
+            (sym (add-zero s.exponent));
+      }
+
+  of_programs : (complete : Bool) (bytes : List ℕ) → IsDue run.machine.programs (order_of play) (IsTextAfter run.machine.programs) (block_of play run.machine.programs) bytes complete
+      → AnswersReady (status_of_run complete) (command.Run play) p bytes
+  of_programs true bytes due = subst (λ (q : Programs). RunsTo true play q bytes) on.programs (record { in_range = on.in_range; due = due })
+  of_programs false bytes due = subst (λ (q : Programs). RunsTo false play q bytes) on.programs (record { in_range = on.in_range; due = due })
 
   -- the block is that of the way in which it was played
-  with_block : (text : List ℕ) → text ++ block ≡ text ++ block_of play run.machine.programs run.machine.schedule
-  with_block text = ap (λ k. text ++ block_of k run.machine.programs run.machine.schedule) on.play_so
-
-  of_programs : (complete : Bool) (bytes : List ℕ) → IsDue run.machine.programs (order_of play) (IsTextAfter run.machine.programs) (block_of play run.machine.programs) bytes complete → RunsTo complete play p bytes
-  of_programs complete bytes due = subst (λ (q : Programs). RunsTo complete play q bytes) on.programs (record { in_range = on.in_range; due = due })
-
-  ended_to : HasEnded run.machine → RunsTo true play p (state_text ++ block)
-  ended_to ended =
-      let m = run.machine in
-      of_programs true (state_text ++ block) (Completes m.schedule on.played.schedule (record {
-        complete = record { legal = on.played.legal; ended = ended.ended };
-        state = state_text;
-        so = record {
-          numerators = (store m.amps).value;
-          exponent = (store m.amps).exponent;
-          form = on.stands.form;
-          lines = HeadSays-text m.programs (bits_in m) (store m.amps).exponent run.head run.live.items _ (store m.amps).value on.head on.slots
-              ∙ ap (λ k. state_lines (length m.programs.ranks) (protocol_total m.programs) k (λ r. number_of_bits (bits_in m r)) (full_slots m.programs (state_of m).tables.slots) (store m.amps).value)
-              (sym (add-zero (store m.amps).exponent));
-        };
-        whole = with_block state_text;
-      }))
-
-  stopped_to : (h : Halt) → HaltStops (order_of play) run.machine h → RunsTo false play p (fault_text (line.Stopped h.rank h.turns h.cause) ++ block)
-  stopped_to h stops =
-      let m = run.machine in
-      of_programs false (fault_text (line.Stopped h.rank h.turns h.cause) ++ block) (StopsShort m.schedule on.played.schedule (record {
-        legal = on.played.legal;
-        rank = h.rank;
-        cause = h.cause;
-        stops = stops.stops;
-        whole = ap (λ n. stopped_line h.rank n h.cause ++ block) stops.turns ∙ with_block (stopped_line h.rank (length m.schedule) h.cause);
-      }))
-
-  abbrev DueWhere : Option FaultLine → Type 0
-  DueWhere stop = AnswersReady (status_where stop) (command.Run play) p (text_where state_text stop ++ block)
-
-  due_of_halt : (f : FaultLine) (h k : Halt) → run.machine.halted ≡ Some h → run.machine.halted ≡ Some k → f ≡ line.Stopped h.rank h.turns h.cause → HaltStops (order_of play) run.machine k → DueWhere (Some f)
-  due_of_halt f h k is so line_so stops =
-      let same : k ≡ h = cc in
-      subst (λ (g : FaultLine). DueWhere (Some g)) (sym line_so) (stopped_to h (subst (λ (x : Halt). HaltStops (order_of play) run.machine x) same stops))
-
-  due_of_stop : (stop : Option FaultLine) → IsStopOf run.machine stop → HasEnded run.machine ⊎ ((h : Halt) × ((run.machine.halted ≡ Some h) × HaltStops (order_of play) run.machine h)) → DueWhere stop
-  due_of_stop None is (inl ended) = ended_to ended
-  due_of_stop None is (inr h) = let halted = h.1.0 in absurd (cc)
-  due_of_stop (Some f) is (inl ended) = let running = ended.running in let halted = is.1 in absurd (cc)
-  due_of_stop (Some f) is (inr h) = due_of_halt f is.0 h.0 is.1 h.1.0 is.2 h.1.1
+  same_text : text_where state_text run.stop ++ block_of play run.machine.programs run.machine.schedule ≡ run_text store run
+  same_text = ap (λ k. text_where state_text run.stop ++ block_of k run.machine.programs run.machine.schedule) (sym on.play_so)
 
   -- the run answers the programs
   pub run-answers : (c : Command) → c ≡ command.Run play → AnswersPrograms store c p (answer.Played run)
   run-answers c is =
-      let due : AnswersReady (run_status run) (command.Run play) p (run_text store run) = due_of_stop run.stop on.stop on.played.over in
-      record { due = subst (λ (k : Command). AnswersReady (run_status run) k p (run_text store run)) (sym is) due }
+      let due = run_due store play p run on (IsTextAfter run.machine.programs) (block_of play run.machine.programs) state_text state_at_end in
+      let bytes = text_where state_text run.stop ++ block_of play run.machine.programs run.machine.schedule in
+      let answers = subst (λ (s : Status). AnswersReady s (command.Run play) p bytes) (sym due.1) (of_programs due.0 bytes due.2) in
+      let with_text = subst (AnswersReady (run_status run) (command.Run play) p) same_text answers in
+      record { due = subst (λ (k : Command). AnswersReady (run_status run) k p (run_text store run)) (sym is) with_text }
 
 -- ---- the one circuit
 module _ (p : Programs) (m : OneView) (one : IsOneCircuit p m) where
@@ -175,6 +147,12 @@ module _ {A : Type 0} (store : A → Store) (c : Command) (text : List ℕ) wher
       → IfOk r (AnswersText store c text) → IfOk r (AnswersSource store words from from')
   text-answers words from from' given (Ok a) e g same due = record { comes = Text c given _ _ e g (subst (λ (t : List ℕ). DueOf c t (status_of a) (text_of store a)) same due.due) }
   text-answers words from from' given (Err x) e g same due = due
+
+-- what answers a command on a made program answers a source that nothing was asked of
+pub making-answers : {A : Type 0} (store : A → Store) (words : List (List ℕ)) (from : SourceView) (m : Making) (r : Result (Answer A) AllocError) → making_of words ≡ Some m
+    → IfOk r (AnswersMaking store m) → IfOk r (AnswersSource store words from from)
+making-answers store words from m (Ok a) e on = record { comes = Made m (status_of a) (text_of store a) e refl on.due }
+making-answers store words from m (Err x) e on = on
 
 -- ---- the answer on the sink
 module _ {A : Type 0} (store : A → Store) where

@@ -1,10 +1,13 @@
 -- The words of a command, one by one
-use Rattle.std.proofs.Common.{◌≡◌, ℕ, ◌+◌, ◌-◌, ◌*◌, ◌<◌, Bool, true, false, ◌&&◌, nat_le, List, [], ◌∷◌, length, map, get_or, None, refl, sym, ap, ◌∙◌, arith}
-use Rattle.std.specs.String.{string_bytes}
-use Rattle.std.specs.declared.alloc.Global.{Global}
-use Rattle.std.specs.declared.string.String.{String}
+use Rattle.std.proofs.Common.{Some, ◌≡◌, ℕ, ◌+◌, ◌-◌, ◌*◌, ◌<◌, Bool, true, false, ◌&&◌, nat_le, List, [], ◌∷◌, None, refl, arith}
 use Rattle.std.proofs.lemmas.Bool.Decides.{nat_tests}
-use Rattle.qm_tool.specs.Commands.{command_of, digits_after, if_small, one_word, two_words}
+use Rattle.std.proofs.lemmas.Option.{none-some}
+use Rattle.qm_tool.specs.declared.command.Command.{Command}
+use Rattle.qm_tool.specs.declared.command.Making.{Making}
+use Rattle.qm_gen.specs.declared.GenKind.{GenKind}
+use Rattle.qm_gen.specs.declared.GenKind.TheVariants.{Ring, Ghz, Parity}
+use Rattle.qm_gen.specs.Sizes.{IsSize}
+use Rattle.qm_tool.specs.Commands.{command_of, digits_after, has_size, if_small, making_of}
 
 abbrev pub is_digit : ℕ → Bool
 is_digit b = nat_le 48 b && nat_le b 57
@@ -21,23 +24,15 @@ if_small-large n (b ∷ bs) h = by_test (if_small-large (10 * n + (b - 48)) bs (
     by_test more true e = rw e more
     by_test more false e = rw e refl
 
--- one word
-pub command_of-one : (ws : List (String Global)) (w : String Global) → length ws ≡ 1 → w ≡ get_or ws 0 w → command_of (map string_bytes ws) ≡ one_word (string_bytes w)
-command_of-one [] w l e = absurd (omega arith)
-command_of-one (v ∷ []) w l e = ap (λ x. one_word (string_bytes x)) (sym e)
-command_of-one (v ∷ u ∷ us) w l e = absurd (omega arith)
+-- a size that the test lets through
+pub sized-has_size : (kind : GenKind) (n : ℕ) → has_size kind n ≡ true → IsSize kind n
+sized-has_size Ring n e = record { enough = grind (arith, nat_tests); few = grind (arith, nat_tests) }
+sized-has_size Ghz n e = record { enough = grind (arith, nat_tests); few = grind (arith, nat_tests) }
+sized-has_size Parity n e = record { enough = grind (arith, nat_tests); few = grind (arith, nat_tests) }
 
--- two words
-pub command_of-two : (ws : List (String Global)) (w k : String Global) → length ws ≡ 2 → w ≡ get_or ws 0 w → k ≡ get_or ws 1 k
-    → command_of (map string_bytes ws) ≡ two_words (string_bytes w) (string_bytes k)
-command_of-two [] w k l e f = absurd (omega arith)
-command_of-two (v ∷ []) w k l e f = absurd (omega arith)
-command_of-two (v ∷ u ∷ []) w k l e f = ap (λ x. two_words (string_bytes x) (string_bytes u)) (sym e) ∙ ap (λ x. two_words (string_bytes w) (string_bytes x)) (sym f)
-command_of-two (v ∷ u ∷ t ∷ ts) w k l e f = absurd (omega arith)
-
--- any other number of words
-pub command_of-other : (ws : List (String Global)) → (length ws ≡ 1 → ⊥) → (length ws ≡ 2 → ⊥) → command_of (map string_bytes ws) ≡ None
-command_of-other [] one two = refl
-command_of-other (v ∷ []) one two = absurd (one refl)
-command_of-other (v ∷ u ∷ []) one two = absurd (two refl)
-command_of-other (v ∷ u ∷ t ∷ ts) one two = refl
+-- words are not both a command on a made program and one on a program of the source
+pub never_both : (words : List (List ℕ)) (m : Making) (c : Command) → making_of words ≡ Some m → command_of words ≡ Some c → ⊥
+never_both [] m c e f = none-some m e
+never_both (w ∷ []) m c e f = none-some m e
+never_both (w ∷ k ∷ []) m c e f = none-some m e
+never_both (w ∷ k ∷ v ∷ ws) m c e f = none-some c f

@@ -1,5 +1,5 @@
 -- A text of which no schedule can stop is run to its end
-use Rattle.std.proofs.Common.{◌≡◌, ◌≢◌, ℕ, ◌≤◌, ◌⊎◌, inl, inr, Bool, false, List, length, Some, None, refl, subst, arith}
+use Rattle.std.proofs.Common.{◌≡◌, ℕ, ◌≤◌, ◌⊎◌, inl, inr, Bool, false, List, length, Some, refl, subst, arith}
 use Rattle.qm_instr.specs.Programs.{Programs}
 use Rattle.qm_proto.specs.declared.Cause.{Cause}
 use Rattle.qm_proto.specs.Model.Schedules.{replay, IsLegal, RendezvousEnds}
@@ -13,8 +13,9 @@ use Rattle.qm_tool.specs.declared.command.Play.{Play}
 use Rattle.qm_tool.specs.declared.status.Status.{Status}
 use Rattle.qm_tool.specs.declared.status.Status.TheVariants as status
 use Rattle.qm_tool.specs.Commands.{command_of, order_of, block_of}
+use Rattle.qm_tool.proofs.CommandLemmas.{never_both}
 use Rattle.qm_tool.proofs.ReadingLaws.{ReadsReady-one, ready_or_refused}
-use Rattle.qm_tool.specs.Due.{OnReady, IsTextAfter, IsSure, AnswersReady, DueOf, Due, NoCommand, TooMuch, Whole}
+use Rattle.qm_tool.specs.Due.{OnReady, IsTextAfter, IsSure, AnswersReady, DueOf, Due, NoCommand, Makes, TooMuch, Whole}
 
 never_stuck : (p : Programs) → NeverStuck p ⊎ RendezvousEnds p → NeverStuck p
 never_stuck p (inl free) = free
@@ -46,7 +47,8 @@ module _ (play : Play) (text bytes : List ℕ) (sure : IsSure text) where
 
 -- so nothing but the status of a run that ended is due for them
 pub Due-ok : (words : List (List ℕ)) (play : Play) (s : Status) (text bytes : List ℕ) → command_of words ≡ Some (command.Run play) → length text ≤ 1048576 → IsSure text → Due words text s bytes → s ≡ status.Ok
-Due-ok words play s text bytes is short sure (NoCommand e) = cc
+Due-ok words play s text bytes is short sure (NoCommand e) = let none = e.reads_none in cc
+Due-ok words play s text bytes is short sure (Makes m t b e d) = absurd (never_both words m (command.Run play) e is)
 Due-ok words play s text bytes is short sure (TooMuch c e long) = absurd (omega arith)
 Due-ok words play s text bytes is short sure (Whole c t b e small d) =
     let same : c ≡ command.Run play = cc in

@@ -1,23 +1,23 @@
 -- An order has one due text, and a machine that was played in it tells which
-use Rattle.std.proofs.Common.{◌≡◌, ◌∙◌, ℕ, ◌+◌, ◌%◌, ◌<◌, ◌≤◌, ◌⊎◌, inl, inr, Bool, true, false, List, [], ◌∷◌, ◌++◌, length, Some, None, suc, refl, sym, ap, subst, arith}
+use Rattle.std.proofs.Common.{◌≡◌, ◌∙◌, ℕ, ◌%◌, ◌<◌, ◌⊎◌, inl, inr, Bool, true, List, [], ◌∷◌, ◌++◌, length, Some, None, refl, sym, ap, subst, arith}
 use Rattle.qm_denot.specs.Circuits.{Circuit}
 use Rattle.qm_denot.specs.Stores.{Store}
 use Rattle.qm_instr.specs.Programs.{Programs}
 use Rattle.qm_proto.specs.declared.Cause.{Cause}
 use Rattle.qm_proto.specs.declared.Check.{Check}
 use Rattle.qm_proto.specs.Model.State.{Tables, State}
-use Rattle.qm_proto.specs.Model.Runs.{enabled, has_event, FirstFails, IsRefused}
-use Rattle.qm_proto.specs.Model.Schedules.{state_at_start, replay, IsLegal, IsComplete, IsStuck, IsLowestLeft, AllEnded, NoneEnabled}
-use Rattle.qm_proto.specs.Model.Orders.{Words, IsFirstAround, IsEndAround, IsOrderFrom, StopsAround}
+use Rattle.qm_proto.specs.Model.Runs.{enabled, FirstFails, IsRefused}
+use Rattle.qm_proto.specs.Model.Schedules.{state_at_start, replay, IsLegal, IsStuck, IsLowestLeft, AllEnded}
+use Rattle.qm_proto.specs.Model.Orders.{IsFirstAround, IsOrderFrom, StopsAround}
 use Rattle.qm_proto.specs.Model.Orders as around
 use Rattle.qm_machine.specs.declared.Halt.{Halt}
 use Rattle.qm_machine.specs.Keeps.{MachineView, HasEnded, state_of}
 use Rattle.qm_print.specs.FaultText.{stopped_line}
 use Rattle.qm_ranks.specs.Plays as plays
-use Rattle.qm_ranks.specs.Plays.{IsOver, GoesOn, Plays}
+use Rattle.qm_ranks.specs.Plays.{IsOver, Plays}
 use Rattle.qm_tool.specs.Dues.{CompleteWith, Stops, Refused, Stuck, StoppedWith, Order, order_words, IsScheduleOf, IsTurnAfter, IsDue, Completes, StopsShort, HaltStops, HasPlayed}
 use Rattle.qm_ranks.proofs.Orders.{one_order, around_unique, around_known, legal_order}
-use Rattle.qm_ranks.proofs.Existing.{row_there}
+use Rattle.qm_runs.proofs.Tables.Counting.{event_where_held}
 
 -- ---- a state stops a run at one rank, for one cause
 first_fails_unique : (g : Circuit) (ks : List Check) (c d : Cause) → FirstFails g ks c → FirstFails g ks d → c ≡ d
@@ -52,7 +52,7 @@ stops_once p s start q r _ _ (Stuck stuck low) (Stuck stuck' low') = (lowest_lef
 
 -- and doesn't where all ranks have ended
 ended_or_stops : (p : Programs) (s : State) (IsNext : ℕ → Type 0) (r : ℕ) (c : Cause) → AllEnded p s.tables → Stops p s IsNext r c → ⊥
-ended_or_stops p s IsNext r _ ended (Refused d next known able refused) = let none = ended r known in let some = row_there p s.tables _ able in cc
+ended_or_stops p s IsNext r _ ended (Refused d next known able refused) = let none = ended r known in let some = event_where_held p s.tables _ able in cc
 ended_or_stops p s IsNext r _ ended (Stuck stuck low) = let none = ended r low.known in let some = low.left in cc
 
 -- ---- one due text

@@ -1,25 +1,23 @@
 -- State texts and circuit texts, by what the ranks have at the end
-use Rattle.std.proofs.Common.{◌≡◌, ℕ, zero, suc, ◌+◌, ◌*◌, ◌<◌, ◌≤◌, Bool, List, [], ◌∷◌, ◌++◌, Option, length, slice_index, slice_set, sum_by, if◌then◌else◌, ◌⊎◌, inl, inr, refl, sym, ap, ◌∙◌, arith, codes}
+use Rattle.std.proofs.Common.{◌≡◌, ℕ, zero, suc, ◌+◌, ◌*◌, ◌<◌, ◌≤◌, Bool, List, [], ◌∷◌, ◌++◌, Option, length, slice_index, slice_set, sum_by, ◌⊎◌, inl, inr, refl, sym, ap, ◌∙◌, arith, codes}
 use Rattle.std.proofs.lemmas.Grind.{get_or-set_at}
 use Rattle.std.proofs.lemmas.List.{get_or-set_other}
 use Rattle.std.proofs.lemmas.List.Sums.{sum_by-cons}
 use Rattle.qm_denot.specs.declared.Wire.{Wire}
 use Rattle.qm_denot.specs.Wires.{no_wires}
-use Rattle.qm_denot.specs.declared.Letter.{Letter}
-use Rattle.qm_denot.specs.declared.Letter.TheVariants as letter
-use Rattle.qm_denot.specs.Circuits.{Amplitudes, Circuit, halves_of, halvings}
+use Rattle.qm_denot.specs.Circuits.{Amplitudes, Circuit}
 use Rattle.qm_denot.specs.Stores.{Store}
 use Rattle.qm_denot.proofs.Unique.{exponent_at_most}
 use Rattle.qm_eval.specs.Holding.{HoldsCircuit}
 use Rattle.qm_ideal.proofs.RunBounds.{letters_bound}
-use Rattle.qm_machine.specs.Views.{number_of_bits as machine_number}
+use Rattle.qm_bits.specs.Numbers.{number_of_bits}
 use Rattle.qm_proto.specs.Model.Ideal.{ideal_replay}
 use Rattle.qm_instr.specs.declared.Instr.{Instr}
 use Rattle.qm_instr.specs.declared.Instr.TheVariants as instr
 use Rattle.qm_instr.specs.Counts.{protocol_of}
 use Rattle.qm_instr.specs.Programs.{Programs, RankProgram, IsInRange}
 use Rattle.qm_proto.specs.Model.Schedules.{protocol_total}
-use Rattle.qm_ideal.specs.OneCircuits.{OneView, IsOneCircuit, number_of_bits, bits_of, slot_of}
+use Rattle.qm_ideal.specs.OneCircuits.{OneView, IsOneCircuit, bits_of, slot_of}
 use Rattle.qm_print.specs.declared.Head.{Head}
 use Rattle.qm_print.specs.declared.Live.{Live}
 use Rattle.qm_print.specs.Bits.{bits_line, bits_lines}
@@ -28,6 +26,7 @@ use Rattle.qm_print.specs.Slots.{full_slots, slots_text, slot_lines}
 use Rattle.qm_print.specs.StateText.{branch_lines, head_lines, state_lines}
 use Rattle.qm_tool.specs.Ends.{HeadSays, text_under}
 use Rattle.qm_tool.proofs.OneViews.{same_letters, same_bits, same_slots}
+use Rattle.qm_runs.proofs.Tables.Counting.{halvings-le}
 
 -- the lines of numbers that are the same for each rank
 pub bits_lines-same : (n : ℕ) (f g : ℕ → ℕ) → ((r : ℕ) → r < n → f r ≡ g r) → bits_lines n f ≡ bits_lines n g
@@ -82,14 +81,6 @@ pub protocol_total-few : (p : Programs) → IsInRange p → protocol_total p ≤
 protocol_total-few p ranges = omega (arith, all_outcomes-few p.ranks, ranges.few)
 
 -- ---- the exponent of the one circuit is small
-halves-le : (l : Letter) → halves_of l ≤ 1
-halves-le (letter.Phase k w) = omega arith
-halves-le _ = omega arith
-
-halvings-le : (c : Circuit) → halvings c ≤ length c
-halvings-le [] = omega arith
-halvings-le (l ∷ ls) = let rest = halvings-le ls in omega (arith, halves-le l)
-
 pub exponent-few : (p : Programs) (m : OneView) (s : Store) → IsInRange p → IsOneCircuit p m → HoldsCircuit m s → s.exponent + protocol_total p ≤ 3400000
 exponent-few p m s ranges one holds =
     let short = letters_bound p ranges (ideal_replay p one.ranks) (record { ranks = one.ranks; run = one.run; state = refl }) in
@@ -105,8 +96,3 @@ bits_set bits i n k f same known now before r lt = elim place [
   where
     place : (r ≡ n) ⊎ (r < n)
     place = grind arith
-
--- the two spellings of the number of bits
-pub same_number : (bits : List Bool) → machine_number bits ≡ number_of_bits bits
-same_number [] = refl
-same_number (b ∷ bs) = ap (λ n. (if b then 1 else 0) + 2 * n) (same_number bs)

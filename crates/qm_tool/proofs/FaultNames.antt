@@ -1,5 +1,5 @@
 -- No line names a lane of answers
-use Rattle.std.proofs.Common.{◌≡◌, ◌≢◌, ℕ, ◌==◌, nat_lt, Bool, true, false, ◌||◌, ◌&&◌, if◌then◌else◌, List, Option, Some, None, Err, length, sum_by, take, slice_get, refl, sym, ap, subst, ◌∙◌}
+use Rattle.std.proofs.Common.{◌≡◌, ◌≢◌, ℕ, ◌==◌, nat_lt, Bool, true, false, ◌||◌, ◌&&◌, if◌then◌else◌, List, Option, Some, None, length, sum_by, take, slice_get, refl, sym, ap, subst}
 use Rattle.std.proofs.lemmas.Option.{same_Some, none-some}
 use Rattle.std.specs.Option.{option_or}
 use Rattle.qm_instr.specs.declared.Instr.{Instr}
@@ -15,8 +15,7 @@ use Rattle.qm_check.specs.declared.Uses.TheVariants.{Nothing, Fills, Keeps, Empt
 use Rattle.qm_check.specs.Checks.{Place, Width, Step, Between, Tape, fault_at, IsFirstFault, capacity_of, most_capacity}
 use Rattle.qm_check.specs.Messages.{is_back, lane_sends, lane_receives, match_fault}
 use Rattle.qm_check.specs.Operands.{partner_of, uses_of}
-use Rattle.qm_check.specs.Slots.{partner_fault, slot_fault, instruction_fault, fault_if_any, full_after}
-use Rattle.qm_check.specs.Tapes.{length_fault}
+use Rattle.qm_check.specs.Slots.{partner_fault, slot_fault, fault_if_any, full_after}
 use Rattle.qm_expand.specs.declared.ReadError.{ReadError}
 use Rattle.qm_expand.specs.declared.ReadError.TheVariants as error
 use Rattle.qm_machine.specs.Keeps.{MachineView}

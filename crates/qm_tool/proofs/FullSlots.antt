@@ -1,5 +1,5 @@
 -- The full slots of all ranks: slot by slot, how many there are, and that they hold different live wires
-use Rattle.std.proofs.Common.{◌≡◌, ◌≢◌, ℕ, zero, suc, ◌+◌, ◌<◌, ◌⊎◌, inl, inr, List, [], ◌∷◌, ◌++◌, ◌≤◌, length, map, take, take_all, sum_by, Option, Some, None, All, Contains, refl, sym, ap, ◌∙◌, arith, add-one, append_assoc, length-append}
+use Rattle.std.proofs.Common.{◌≡◌, ◌≢◌, ℕ, zero, suc, ◌+◌, ◌<◌, ◌⊎◌, inl, inr, List, [], ◌∷◌, ◌++◌, ◌≤◌, length, map, take, take_all, sum_by, Option, Some, None, All, Contains, refl, ap, ◌∙◌, arith, add-one, append_assoc, length-append}
 use Rattle.std.proofs.lemmas.List.{map-append, append-nil}
 use Rattle.std.proofs.lemmas.List.Elements.{All-nil, All-cons, All-head, All-tail, All-append, All-map}
 use Rattle.qm_denot.specs.declared.Wire.{Wire}
@@ -15,6 +15,7 @@ use Rattle.qm_proto.specs.Model.Places.{InSlot}
 use Rattle.qm_machine.specs.Keeps.{MachineView, Keeps, state_of}
 use Rattle.qm_print.specs.declared.Live.{Live}
 use Rattle.qm_print.specs.Slots.{AreLive, slot_if, rank_slots, slots_below, full_slots}
+use Rattle.qm_denot.proofs.LiveWires.{Distinct-push}
 
 -- ---- slot by slot
 -- the full ones of one slot more, whose content was read
@@ -23,10 +24,6 @@ pub rank_slots-next : (old full : List Live) (r q : ℕ) (slots : ℕ → Option
 rank_slots-next old full r q slots content before read =
     rw (read, add-one q) (ap (λ (ss : List Live). ss ++ slot_if r q (slots q)) before ∙ append_assoc old (rank_slots r q slots) (slot_if r q (slots q)))
 
-pub none_where_not_some : {T : Type 0} (o : Option T) → ((t : T) → o ≡ Some t → ⊥) → o ≡ None
-none_where_not_some None h = refl
-none_where_not_some (Some t) h = absurd (h t refl)
-
 -- ---- different wires
 abbrev wire_in : Live → Wire
 wire_in s = s.wire
@@ -34,10 +31,6 @@ wire_in s = s.wire
 Lacks-append : (vs ws : List Wire) (w : Wire) → Lacks vs w → Lacks ws w → Lacks (vs ++ ws) w
 Lacks-append [] ws w a b = b
 Lacks-append (v ∷ vs) ws w a b = (a.0, Lacks-append vs ws w a.1 b)
-
-Distinct-push : (ws : List Wire) (w : Wire) → Distinct ws → Lacks ws w → Distinct (ws ++ w ∷ [])
-Distinct-push [] w d l = (tt, tt)
-Distinct-push (v ∷ ws) w d l = (Lacks-append ws (w ∷ []) v d.0 (λ e. l.0 (sym e), tt), Distinct-push ws w d.1 l.1)
 
 Lacks-from_all : (ss : List Live) (w : Wire) → All (λ s. s.wire ≢ w) ss → Lacks (map wire_in ss) w
 Lacks-from_all [] w a = tt

@@ -1,6 +1,5 @@
 pub mod CommandLemmas
 pub mod WorkedWords
-pub mod FirstFaults
 pub mod ReadingLaws
 pub mod DueLemmas
 pub mod OneViews
@@ -10,12 +9,15 @@ pub mod Capacities
 pub mod FullSlots
 pub mod AnswerLaws
 pub mod OneCircuits
+pub mod SomeLines
 pub mod Completing
 pub mod CallLaws
+pub mod RunLemmas
 pub mod AnswerLemmas
+pub mod MakingSizes
 pub mod SomeReading
-pub mod ReadRanges
 pub mod SomeFaults
 pub mod SomeRuns
 pub mod SomeCircuits
 pub mod SomeAnswers
+pub mod JobLemmas

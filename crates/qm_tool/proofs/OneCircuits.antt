@@ -16,7 +16,7 @@ use Rattle.qm_proto.proofs.Firsts.{one_run_unique}
 use Rattle.qm_tool.specs.Dues.{IsDue, Completes, StopsShort}
 use Rattle.qm_runs.specs.Headline.{ComesToOne}
 use Rattle.qm_runs.proofs.Headline.{headline_law}
-use Rattle.qm_ideal.specs.OneCircuits.{number_of_bits}
+use Rattle.qm_bits.specs.Numbers.{number_of_bits}
 use Rattle.qm_print.specs.Slots.{full_slots}
 use Rattle.qm_print.specs.StateText.{state_lines}
 use Rattle.qm_tool.specs.declared.command.Command.{Command}
@@ -24,7 +24,7 @@ use Rattle.qm_tool.specs.declared.command.Command.TheVariants as command
 use Rattle.qm_tool.specs.declared.command.Play.{Play}
 use Rattle.qm_tool.specs.declared.status.Status.TheVariants as status
 use Rattle.qm_tool.specs.Commands.{order_of, block_of}
-use Rattle.qm_tool.specs.Due.{EndsWith, IsTextAfter, IsOneText, IsOneTextWith, IsWithBlock, StatesOneCircuit, WaitsWith, AnswersReady, DueOf, AgreesWithRun}
+use Rattle.qm_tool.specs.Due.{EndsWith, IsTextAfter, IsOneText, IsOneTextWith, IsWithBlock, StatesOneCircuit, WaitsWith, AnswersReady, AgreesWithRun}
 use Rattle.qm_tool.proofs.AnswerLaws.{IsOneText-one}
 use Rattle.qm_tool.proofs.ReadingLaws.{ReadsReady-one}
 
@@ -39,7 +39,7 @@ module _ (p : Programs) where
       λ n b f v. state_lines (length p.ranks) (protocol_total p) n (λ r. number_of_bits (b r)) (full_slots p f) v in
       ap (λ n. lines n bits slots u) scales ∙ ap (λ b. lines k' b slots u) all_bits ∙ ap (λ f. lines k' bits' f u) all_slots ∙ ap (lines k' bits' slots') numbers
 
-  one_text : (schedule ranks text : List ℕ) → ComesToOne p schedule ranks → IsTextAfter p schedule text → IsOneText p text
+  pub one_text : (schedule ranks text : List ℕ) → ComesToOne p schedule ranks → IsTextAfter p schedule text → IsOneText p text
   one_text schedule ranks text comes after =
       let form = reduced_form (ideal_replay p ranks).circuit in
       let u : Amplitudes = form.0 in

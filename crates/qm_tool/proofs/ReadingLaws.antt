@@ -1,8 +1,7 @@
 -- A text reads as programs without a fault in one way at most, or is refused for one reason at most, and never both
-use Rattle.std.proofs.Common.{◌≡◌, ◌≢◌, ℕ, List, Option, Some, None, Result, Ok, Err, refl, sym, ap, subst, ◌∙◌}
+use Rattle.std.proofs.Common.{◌≡◌, ◌≢◌, ℕ, List, Some, Result, Ok, Err, refl, sym, ap, subst, ◌∙◌}
 use Rattle.std.proofs.lemmas.Option.{same_Some, none-some}
 use Rattle.qm_instr.specs.Programs.{Programs}
-use Rattle.qm_check.specs.declared.Fault.{Fault}
 use Rattle.qm_check.specs.Checks.{IsReady, IsFirstFault}
 use Rattle.qm_expand.specs.declared.ReadError.{ReadError}
 use Rattle.qm_expand.specs.declared.ReadError.TheVariants as error
@@ -13,7 +12,7 @@ use Rattle.qm_print.specs.declared.FaultLine.TheVariants as line
 use Rattle.qm_tool.specs.declared.status.Status.TheVariants as status
 use Rattle.qm_tool.specs.Due.{ReadsReady, reading_fault, IsRefusedFor, Misread, Faulty}
 use Rattle.qm_tool.specs.Statuses.{status_of_fault}
-use Rattle.qm_tool.proofs.FirstFaults.{first_fault-one, ready-no_fault}
+use Rattle.qm_check.proofs.FirstFaults.{first_fault-one, ready-no_fault}
 
 abbrev Reading : Type 0
 Reading = Result Programs ReadError

@@ -10,12 +10,17 @@ use Rattle.qm_tool.specs.declared.command.Command.{Command}
 use Rattle.qm_tool.specs.declared.command.Command.TheVariants as command
 use Rattle.qm_tool.specs.declared.status.Status.{Status}
 use Rattle.qm_tool.specs.declared.status.Status.TheVariants as status
-use Rattle.qm_tool.specs.Commands.{command_of}
-use Rattle.qm_tool.specs.Due.{OnReady, IsRefusedFor, Faulty, AnswersReady, DueOf, Due, NoCommand, TooMuch, Whole, SomeAnswer}
+use Rattle.qm_seed.specs.Seeds.{seed_words}
+use Rattle.qm_gen.proofs.MadeReads.{made-ready}
+use Rattle.qm_tool.specs.declared.command.Making.{Making}
+use Rattle.qm_tool.specs.declared.command.Making.TheVariants as making
+use Rattle.qm_tool.specs.Commands.{command_of, making_of, recipe_text, IsSizedMaking}
+use Rattle.qm_tool.specs.Due.{OnReady, IsRefusedFor, Faulty, AnswersReady, DueOf, DueOfMaking, Due, NoCommand, Makes, TooMuch, Whole, SomeAnswer}
 use Rattle.qm_tool.proofs.SomeReading.{SomeReading, Read, Unread, some_reading}
-use Rattle.qm_tool.proofs.ReadRanges.{read_in_range}
+use Rattle.qm_expand.proofs.ReadRanges.{read_in_range}
 use Rattle.qm_tool.proofs.SomeFaults.{ready_or_first_fault}
-use Rattle.qm_tool.proofs.SomeRuns.{some_run_answer}
+use Rattle.qm_tool.proofs.MakingSizes.{making_of-sized}
+use Rattle.qm_tool.proofs.SomeRuns.{some_run_answer, some_job_answer}
 use Rattle.qm_tool.proofs.SomeCircuits.{HasAnswer, some_mono_answer, some_amps_answer, some_check_answer}
 
 -- ---- programs without a fault
@@ -54,13 +59,26 @@ module _ (c : Command) (text : List ℕ) (short : length text ≤ 1048576) where
         )
   ]
 
+-- ---- a command on a made program
+making_answer : (m : Making) → IsSizedMaking m → (s : Status) × (bytes : List ℕ) × DueOfMaking m s bytes
+making_answer (making.Gen r) sized = (status.Ok, recipe_text r, refl)
+making_answer (making.Job r) sized = some_job_answer r (made-ready r.kind r.size (seed_words r.number) sized)
+
 -- ---- all words and texts
+module _ (words : List (List ℕ)) (text : List ℕ) where
+  abbrev SomeDue : Type 0
+  SomeDue = (s : Status) × (bytes : List ℕ) × Due words text s bytes
+
+  by_making : command_of words ≡ None → (o : Option Making) → making_of words ≡ o → SomeDue
+  by_making e None f = (status.Usage, fault_text line.Usage, NoCommand (record { reads_none = e; makes_none = f }))
+  by_making e (Some m) f = let a = making_answer m (making_of-sized words m f) in (a.0, a.1, Makes m a.0 a.1 f a.2)
+
+  by_command : (o : Option Command) → command_of words ≡ o → SomeDue
+  by_command None e = by_making e (making_of words) refl
+  by_command (Some c) e = elim (cases_lt 1048576 (length text)) [
+    | inl long ↦ (status.TooLong, fault_text line.TooLong, TooMuch c e long)
+    | inr short ↦ (let a = answer c text short (some_reading text short) in (a.0, a.1, Whole c a.0 a.1 e short a.2))
+  ]
+
 pub some_answer : SomeAnswer
-some_answer words text = by_command (command_of words) refl
-  where
-    by_command : (o : Option Command) → command_of words ≡ o → (s : Status) × (bytes : List ℕ) × Due words text s bytes
-    by_command None e = (status.Usage, fault_text line.Usage, NoCommand e)
-    by_command (Some c) e = elim (cases_lt 1048576 (length text)) [
-      | inl long ↦ (status.TooLong, fault_text line.TooLong, TooMuch c e long)
-      | inr short ↦ (let a = answer c text short (some_reading text short) in (a.0, a.1, Whole c a.0 a.1 e short a.2))
-    ]
+some_answer words text = by_command words text (command_of words) refl

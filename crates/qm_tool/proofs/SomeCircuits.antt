@@ -26,12 +26,12 @@ use Rattle.qm_proto.specs.Model.State.{Tables}
 use Rattle.qm_proto.specs.Model.Schedules.{protocol_total, tables_at_start, with_buffers_of_one, AllEnded, RendezvousEnds}
 use Rattle.qm_proto.specs.Model.Runs.{next_tables}
 use Rattle.qm_proto.specs.Model.Ideal as model
-use Rattle.qm_proto.specs.Model.Ideal.{IdealTables, IdealState, ideal_next, ideal_at_start, ideal_replay, IsIdealFrom, IsIdealRun, IsOneFrom, IsOneRun, has_instr, AllDone}
+use Rattle.qm_proto.specs.Model.Ideal.{IdealState, ideal_replay, IsOneRun, has_instr, AllDone}
 use Rattle.qm_runs.proofs.Confluence.Confluent.{IsLeast, least}
 use Rattle.qm_runs.proofs.Confluence.NamedWires.{state_of_run}
-use Rattle.qm_runs.proofs.Tables.Sums.{same_or_below}
 use Rattle.qm_runs.proofs.Endings.Tests.{test_fails_or_not}
-use Rattle.qm_ideal.specs.OneCircuits.{number_of_bits, wires_in, RankEnd, OneView, bits_of, slot_of, IsOneCircuit, left_from, EndsEarly}
+use Rattle.qm_bits.specs.Numbers.{number_of_bits}
+use Rattle.qm_ideal.specs.OneCircuits.{wires_in, RankEnd, OneView, bits_of, slot_of, IsOneCircuit, left_from, EndsEarly}
 use Rattle.qm_ideal.specs.Existence.{IsRendezvousRun}
 use Rattle.qm_ideal.proofs.RunsExist.{one_run, one_rendezvous_run}
 use Rattle.qm_eval.specs.Overflows.{OverflowsAt, IsFirstOverflow, NeverOverflows}
@@ -46,6 +46,8 @@ use Rattle.qm_tool.specs.declared.command.Command.TheVariants as command
 use Rattle.qm_tool.specs.declared.status.Status.{Status}
 use Rattle.qm_tool.specs.declared.status.Status.TheVariants as status
 use Rattle.qm_tool.specs.Due.{most_wires, IsOneText, AnswersReady}
+use Rattle.qm_proto.proofs.Meetings.{same_or_below}
+use Rattle.qm_proto.proofs.Firsts.{one_run-ideal}
 
 -- ---- lists of the values of a function
 listed : {A : Type 0} → (ℕ → A) → ℕ → ℕ → List A
@@ -101,20 +103,12 @@ none_there None e = refl
 none_there (Some w) e = cc
 
 -- ---- the end of the one run
-ideal_from_one : (p : Programs) (rs : List ℕ) (s : IdealState) → IsOneFrom p s rs → IsIdealFrom p s rs
-ideal_from_one p [] s run = tt
-ideal_from_one p (r ∷ rs) s run = (run.0.known, run.0.able, ideal_from_one p rs (ideal_next p s r) run.1)
-
-ideal_run : (p : Programs) (rs : List ℕ) → IsOneRun p rs → IsIdealRun p rs
-unfolding IsOneRun IsIdealRun
-ideal_run p rs run = ideal_from_one p rs (ideal_at_start p) run
-
 module _ (p : Programs) (ready : IsReady p) (ranges : IsInRange p) (ranks : List ℕ) (run : IsOneRun p ranks) where
   abbrev end : IdealState
   end = ideal_replay p ranks
 
   full : (r q : ℕ) → is_some (end.tables.slots r q) ≡ full_after (before p r (end.tables.parts r).at) q
-  full = (state_of_run p ready ranges ranks (ideal_run p ranks run)).tables.full
+  full = (state_of_run p ready ranges ranks (one_run-ideal p ranks run)).tables.full
 
   few_slots : (r : ℕ) → r < length p.ranks → All (λ i. HasFewSlots (uses_of i)) (rank_of p r).instructions
   few_slots r known = λ k d within.

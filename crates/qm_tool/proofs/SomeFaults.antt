@@ -22,9 +22,9 @@ use Rattle.qm_check.specs.Messages.{lane_posted, lane_sends, lane_receives, is_b
 use Rattle.qm_check.specs.Slots.{full_after, fault_if_any, step_fault}
 use Rattle.qm_check.specs.Tapes.{length_fault, tape_fault}
 use Rattle.qm_check.specs.Checks.{Width, fault_at, IsBefore, IsReady, IsFirstFault}
-use Rattle.qm_runs.proofs.Tables.Sums.{same_or_below}
 use Rattle.qm_check.proofs.Firsts.{NoneBefore, first_in_row}
 use Rattle.qm_check.proofs.Places.{first_of_all}
+use Rattle.qm_proto.proofs.Meetings.{same_or_below}
 
 -- ---- numbered places, of which those from some number on have no fault
 module _ (faults : ℕ → Option Fault) where

@@ -1,19 +1,10 @@
--- Every text that is short enough has a reading: programs, or the first fault of its bytes, of the grammar or of the expansion
-use Rattle.std.proofs.Common.{◌≡◌, ℕ, ◌≤◌, ◌⊎◌, inl, inr, List, length, Result, Ok, Err, refl}
+-- Every text that is short enough reads as programs, or there is a line of why it doesn't
+use Rattle.std.proofs.Common.{◌≢◌, ℕ, ◌≤◌, List, length, Result, Ok, Err, refl, ap}
 use Rattle.qm_instr.specs.Programs.{Programs}
-use Rattle.qm_lex.specs.declared.tokens.Token.{Token}
-use Rattle.qm_lex.specs.Lexing.{tokens_of}
-use Rattle.qm_parse.specs.declared.errors.ParseError.{ParseError}
-use Rattle.qm_parse.specs.declared.errors.ParseError.TheVariants as parse
-use Rattle.qm_parse.specs.Signs.{signs_of}
-use Rattle.qm_parse.specs.Laws.{Refused}
-use Rattle.qm_parse.specs.Trees.{Program}
-use Rattle.qm_parse.specs.Faults.{Spells}
-use Rattle.qm_parse.proofs.SomeAnswer.{some-answer}
+use Rattle.qm_expand.specs.declared.ReadError.{ReadError}
 use Rattle.qm_expand.specs.declared.ReadError.TheVariants as error
-use Rattle.qm_expand.specs.Steps.{Outcome, UnknownName, OutOfRange, TooMany}
-use Rattle.qm_expand.specs.Expansion.{expanded}
-use Rattle.qm_expand.specs.Reading.{Reads, MadeOf, lines_of}
+use Rattle.qm_expand.specs.Reading.{Reads}
+use Rattle.qm_expand.proofs.SomeReading.{some-reading}
 use Rattle.qm_print.specs.declared.FaultLine.{FaultLine}
 use Rattle.qm_print.specs.declared.FaultLine.TheVariants as line
 use Rattle.qm_tool.specs.Due.{IsRefusedFor, Misread}
@@ -23,27 +14,21 @@ pub data SomeReading (text : List ℕ) : Type 0 where
   Read : (p : Programs) → Reads text (Ok p) → SomeReading text
   Unread : (f : FaultLine) → IsRefusedFor text f → SomeReading text
 
-module _ (text : List ℕ) (tokens : List Token) (are : tokens_of text ≡ Ok tokens) where
-  of_fault : (e : ParseError) → Refused text tokens e → SomeReading text
-  of_fault (parse.Unexpected n) h = Unread (line.Unexpected n) (Misread (error.Unexpected n) (line.Unexpected n) (tokens, are, h) refl)
-  of_fault (parse.NumberTooLarge n) h = Unread (line.NumberTooLarge n) (Misread (error.NumberTooLarge n) (line.NumberTooLarge n) (tokens, are, h) refl)
-  of_fault (parse.TooDeep n) h = Unread (line.TooDeep n) (Misread (error.TooDeep n) (line.TooDeep n) (tokens, are, h) refl)
-  of_fault (parse.Unended n) h = Unread (line.Unended n) (Misread (error.Unended n) (line.Unended n) (tokens, are, h) refl)
-  of_fault parse.Memory h = absurd h
+module _ (text : List ℕ) where
+  unread : (e : ReadError) → e ≢ error.Memory → Reads text (Err e) → SomeReading text
+  unread (error.BadByte n) known h = Unread (line.BadByte n) (Misread (error.BadByte n) (line.BadByte n) h refl)
+  unread (error.Unexpected n) known h = Unread (line.Unexpected n) (Misread (error.Unexpected n) (line.Unexpected n) h refl)
+  unread (error.NumberTooLarge n) known h = Unread (line.NumberTooLarge n) (Misread (error.NumberTooLarge n) (line.NumberTooLarge n) h refl)
+  unread (error.TooDeep n) known h = Unread (line.TooDeep n) (Misread (error.TooDeep n) (line.TooDeep n) h refl)
+  unread (error.Unended n) known h = Unread (line.Unended n) (Misread (error.Unended n) (line.Unended n) h refl)
+  unread (error.UnknownName n) known h = Unread (line.UnknownName n) (Misread (error.UnknownName n) (line.UnknownName n) h refl)
+  unread (error.OutOfRange n) known h = Unread (line.OutOfRange n) (Misread (error.OutOfRange n) (line.OutOfRange n) h refl)
+  unread (error.TooMany n) known h = Unread (line.TooMany n) (Misread (error.TooMany n) (line.TooMany n) h refl)
+  unread error.Memory known h = absurd (known refl)
 
-  of_outcome : (o : Outcome Programs) → MadeOf text o tokens → SomeReading text
-  of_outcome (Ok p) m = Read p (tokens, are, m)
-  of_outcome (Err (UnknownName n)) m = Unread (line.UnknownName n) (Misread (error.UnknownName n) (line.UnknownName n) (tokens, are, m) refl)
-  of_outcome (Err (OutOfRange n)) m = Unread (line.OutOfRange n) (Misread (error.OutOfRange n) (line.OutOfRange n) (tokens, are, m) refl)
-  of_outcome (Err (TooMany n)) m = Unread (line.TooMany n) (Misread (error.TooMany n) (line.TooMany n) (tokens, are, m) refl)
-
-  of_answer : ((m : Program) × Spells (signs_of text tokens) m) ⊎ ((e : ParseError) × Refused text tokens e) → SomeReading text
-  of_answer (inl (m, spelled)) = of_outcome (expanded (lines_of tokens) m) (record { program = m; spelled = spelled; expands = refl })
-  of_answer (inr (e, h)) = of_fault e h
+  of_answer : (r : Result Programs ReadError) → r ≢ Err error.Memory → Reads text r → SomeReading text
+  of_answer (Ok p) known h = Read p h
+  of_answer (Err e) known h = unread e (λ same. known (ap (λ x. Err x) same)) h
 
 pub some_reading : (text : List ℕ) → length text ≤ 1048576 → SomeReading text
-some_reading text small = by_bytes (tokens_of text) refl
-  where
-    by_bytes : (r : Result (List Token) ℕ) → tokens_of text ≡ r → SomeReading text
-    by_bytes (Ok tokens) e = of_answer text tokens e (some-answer text tokens e small)
-    by_bytes (Err n) e = Unread (line.BadByte n) (Misread (error.BadByte n) (line.BadByte n) e refl)
+some_reading text small = let r = some-reading text small in of_answer text r.answer r.known r.reads

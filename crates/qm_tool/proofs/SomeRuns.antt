@@ -1,5 +1,5 @@
--- Each command that runs programs has an answer for them
-use Rattle.std.proofs.Common.{ℕ, ◌+◌, ◌%◌, inl, inr, List, [], ◌++◌, length, refl}
+-- Each run of programs comes to an end for which something is due, complete or stopped
+use Rattle.std.proofs.Common.{ℕ, ◌+◌, ◌%◌, inl, inr, Bool, true, false, List, [], ◌++◌, length, refl}
 use Rattle.qm_denot.proofs.ReducedForms.{reduced_form}
 use Rattle.qm_instr.specs.Programs.{Programs, IsInRange}
 use Rattle.qm_proto.specs.declared.Cause.{Cause}
@@ -8,24 +8,82 @@ use Rattle.qm_proto.specs.Model.Runs.{has_event, IsRefused}
 use Rattle.qm_proto.specs.Model.Schedules.{protocol_total, replay, IsLegal, AllEnded, NoneEnabled}
 use Rattle.qm_proto.specs.Model.Orders.{IsEndAround}
 use Rattle.qm_runs.proofs.Confluence.Confluent.{IsLeast, least}
-use Rattle.qm_ideal.specs.OneCircuits.{number_of_bits}
+use Rattle.qm_bits.specs.Numbers.{number_of_bits}
 use Rattle.qm_print.specs.FaultText.{stopped_line}
 use Rattle.qm_print.specs.Slots.{full_slots}
-use Rattle.qm_print.specs.StateText.{state_lines}
+use Rattle.qm_gen.specs.Laws.{IsReadyText}
+use Rattle.qm_print.specs.JobText.{job_text}
+use Rattle.qm_print.specs.StateText.{line_count, state_lines}
 use Rattle.qm_ranks.proofs.Existing.{some_order}
 use Rattle.qm_ranks.proofs.Orders.{around_known, legal_order}
 use Rattle.qm_tool.specs.declared.command.Command.TheVariants as command
 use Rattle.qm_tool.specs.declared.command.Play.{Play}
 use Rattle.qm_tool.specs.declared.status.Status.{Status}
 use Rattle.qm_tool.specs.declared.status.Status.TheVariants as status
-use Rattle.qm_tool.specs.Commands.{order_of, block_of}
-use Rattle.qm_tool.specs.Dues.{Refused, Stuck, order_words, IsScheduleOf, IsTurnAfter, Completes, StopsShort}
-use Rattle.qm_tool.specs.Due.{IsTextAfter, AnswersReady}
+use Rattle.qm_tool.specs.declared.command.Making.TheVariants as making
+use Rattle.qm_tool.specs.declared.command.Recipe.{Recipe}
+use Rattle.qm_tool.specs.Commands.{order_of, block_of, kind_word, recipe_text}
+use Rattle.qm_tool.specs.Dues.{Order, Lowest, Refused, Stuck, order_words, IsScheduleOf, IsTurnAfter, IsDue, Completes, StopsShort}
+use Rattle.qm_tool.specs.Due.{IsTextAfter, AnswersReady, IsJobText, WorksTo, DueOfMaking}
 
+-- a run in an order of turns, with a state text for each schedule
+module _ (p : Programs) (o : Order) (IsState : List ℕ → List ℕ → Type 0) (block : List ℕ → List ℕ)
+    (text_after : (schedule : List ℕ) → (text : List ℕ) × IsState schedule text) where
+  abbrev pub SomeDue : Type 0
+  SomeDue = (complete : Bool) × (bytes : List ℕ) × IsDue p o IsState block bytes complete
+
+  module _ (schedule : List ℕ) (order : IsScheduleOf p o schedule) (legal : IsLegal p schedule) where
+    stopped : (rank : ℕ) (c : Cause) → IsTurnAfter p o schedule rank → IsRefused p (replay p schedule) rank c → SomeDue
+    stopped rank c first refused = (
+      false,
+      stopped_line rank (length schedule) c ++ block schedule,
+      StopsShort schedule order (record {
+        legal = legal;
+        rank = rank;
+        cause = c;
+        stops = Refused c first (around_known p (replay p schedule).tables (order_words o (length schedule) % length p.ranks) rank first) first.able refused;
+        whole = refl;
+      }),
+    )
+
+    stuck : NoneEnabled p (replay p schedule).tables → (rank : ℕ) → IsLeast (has_event p (replay p schedule).tables) (length p.ranks) rank → SomeDue
+    stuck none rank low = (
+      false,
+      stopped_line rank (length schedule) cause.Stuck ++ block schedule,
+      StopsShort schedule order (record {
+        legal = legal;
+        rank = rank;
+        cause = cause.Stuck;
+        stops = Stuck (record { left = (rank, low.below, low.here); none = none }) (record { known = low.below; left = low.here; below = low.less });
+        whole = refl;
+      }),
+    )
+
+    complete : AllEnded p (replay p schedule).tables → SomeDue
+    complete ended =
+        let text = text_after schedule in (
+          true,
+          text.0 ++ block schedule,
+          Completes schedule order (record { complete = record { legal = legal; ended = ended }; state = text.0; so = text.1; whole = refl }),
+        )
+
+    at_end : IsEndAround p (replay p schedule) (order_words o (length schedule) % length p.ranks) → SomeDue
+    at_end (inr (rank, c, first, refused)) = stopped rank c first refused
+    at_end (inl none) = elim (least (has_event p (replay p schedule).tables) (length p.ranks)) [
+      | inl ended ↦ complete ended
+      | inr (rank, low) ↦ stuck none rank low
+    ]
+
+  pub some_due : SomeDue
+  unfolding replay IsLegal
+  some_due =
+      let w = order_words o in
+      let run = some_order p [] w tt in
+      let law = legal_order p [] run.0 w tt run.1 in
+      at_end run.0 run.1 law.legal law.ended
+
+-- ---- a command that runs programs
 module _ (p : Programs) (in_range : IsInRange p) (play : Play) where
-  abbrev RunAnswer : Type 0
-  RunAnswer = (s : Status) × (bytes : List ℕ) × AnswersReady s (command.Run play) p bytes
-
   -- the state text of what a schedule leaves
   text_after : (schedule : List ℕ) → (text : List ℕ) × IsTextAfter p schedule text
   text_after schedule =
@@ -35,61 +93,38 @@ module _ (p : Programs) (in_range : IsInRange p) (play : Play) where
         record { numerators = form.0; exponent = form.1; form = form.2; lines = refl },
       )
 
-  module _ (schedule : List ℕ) (order : IsScheduleOf p (order_of play) schedule) (legal : IsLegal p schedule) where
-    stopped : (rank : ℕ) (c : Cause) → IsTurnAfter p (order_of play) schedule rank → IsRefused p (replay p schedule) rank c → RunAnswer
-    stopped rank c first refused = (
-      status.Stopped,
-      stopped_line rank (length schedule) c ++ block_of play p schedule,
-      record {
-        in_range = in_range;
-        due = StopsShort schedule order (record {
-          legal = legal;
-          rank = rank;
-          cause = c;
-          stops = Refused c first (around_known p (replay p schedule).tables (order_words (order_of play) (length schedule) % length p.ranks) rank first) first.able refused;
-          whole = refl;
-        });
-      },
-    )
+  by_end : SomeDue p (order_of play) (IsTextAfter p) (block_of play p) text_after → (s : Status) × (bytes : List ℕ) × AnswersReady s (command.Run play) p bytes
+  by_end (true, bytes, due) = (status.Ok, bytes, record { in_range = in_range; due = due })
+  by_end (false, bytes, due) = (status.Stopped, bytes, record { in_range = in_range; due = due })
 
-    stuck : NoneEnabled p (replay p schedule).tables → (rank : ℕ) → IsLeast (has_event p (replay p schedule).tables) (length p.ranks) rank → RunAnswer
-    stuck none rank low = (
-      status.Stopped,
-      stopped_line rank (length schedule) cause.Stuck ++ block_of play p schedule,
-      record {
-        in_range = in_range;
-        due = StopsShort schedule order (record {
-          legal = legal;
-          rank = rank;
-          cause = cause.Stuck;
-          stops = Stuck (record { left = (rank, low.below, low.here); none = none }) (record { known = low.below; left = low.here; below = low.less });
-          whole = refl;
-        });
-      },
-    )
+  pub some_run_answer : (s : Status) × (bytes : List ℕ) × AnswersReady s (command.Run play) p bytes
+  some_run_answer = by_end (some_due p (order_of play) (IsTextAfter p) (block_of play p) text_after)
 
-    complete : AllEnded p (replay p schedule).tables → RunAnswer
-    complete ended =
-        let text = text_after schedule in (
-          status.Ok,
-          text.0 ++ block_of play p schedule,
-          record {
-            in_range = in_range;
-            due = Completes schedule order (record { complete = record { legal = legal; ended = ended }; state = text.0; so = text.1; whole = refl });
-          },
-        )
+-- ---- a command on a made program
+module _ (r : Recipe) (made : IsReadyText (recipe_text r)) where
+  -- the job text of what a schedule leaves
+  summary_after : (schedule : List ℕ) → (text : List ℕ) × IsJobText r made.programs schedule text
+  summary_after schedule =
+      let s = replay made.programs schedule in
+      let form = reduced_form s.circuit in (
+        job_text (kind_word r.kind) (record {
+          size = r.size;
+          number = r.number;
+          events = length schedule;
+          protocol = protocol_total made.programs;
+          scale = form.1;
+          lines = line_count form.0 (full_slots made.programs s.tables.slots);
+        }),
+        record { numerators = form.0; exponent = form.1; form = form.2; whole = refl },
+      )
 
-    at_end : IsEndAround p (replay p schedule) (order_words (order_of play) (length schedule) % length p.ranks) → RunAnswer
-    at_end (inr (rank, c, first, refused)) = stopped rank c first refused
-    at_end (inl none) = elim (least (has_event p (replay p schedule).tables) (length p.ranks)) [
-      | inl ended ↦ complete ended
-      | inr (rank, low) ↦ stuck none rank low
-    ]
+  works_to : (complete : Bool) (bytes : List ℕ) → IsDue made.programs Lowest (IsJobText r made.programs) (λ schedule. []) bytes complete → WorksTo complete r bytes
+  works_to complete bytes due =
+      record { programs = made.programs; reads = record { reads = made.reads; ready = made.ready }; so = record { in_range = made.in_range; due = due } }
 
-  pub some_run_answer : RunAnswer
-  unfolding replay IsLegal
-  some_run_answer =
-      let w = order_words (order_of play) in
-      let run = some_order p [] w tt in
-      let law = legal_order p [] run.0 w tt run.1 in
-      at_end run.0 run.1 law.legal law.ended
+  job_by_end : SomeDue made.programs Lowest (IsJobText r made.programs) (λ schedule. []) summary_after → (s : Status) × (bytes : List ℕ) × DueOfMaking (making.Job r) s bytes
+  job_by_end (true, bytes, due) = (status.Ok, bytes, works_to true bytes due)
+  job_by_end (false, bytes, due) = (status.Stopped, bytes, works_to false bytes due)
+
+  pub some_job_answer : (s : Status) × (bytes : List ℕ) × DueOfMaking (making.Job r) s bytes
+  some_job_answer = job_by_end (some_due made.programs Lowest (IsJobText r made.programs) (λ schedule. []) summary_after)

@@ -13,12 +13,13 @@ use Rattle.qm_tool.specs.declared.answer.Answer.{Answer}
 use Rattle.qm_tool.specs.declared.answer.Answer.TheVariants as answer
 use Rattle.qm_tool.specs.declared.circuits.Amplitudes.{Amplitudes}
 use Rattle.qm_tool.specs.declared.command.Command.{Command}
+use Rattle.qm_tool.specs.declared.command.Making.{Making}
 use Rattle.qm_tool.specs.declared.status.Status.{Status}
 use Rattle.qm_tool.specs.declared.status.Status.TheVariants as status
 use Rattle.qm_tool.specs.Calls.{Comes, Ends}
-use Rattle.qm_tool.specs.Due.{AnswersReady, DueOf}
+use Rattle.qm_tool.specs.Due.{AnswersReady, DueOf, DueOfMaking}
 use Rattle.qm_tool.specs.Ends.{text_under}
-use Rattle.qm_tool.specs.Running.{run_status, run_text, MayPutRun}
+use Rattle.qm_tool.specs.Running.{run_status, run_text, work_text, MayPutRun}
 use Rattle.qm_tool.specs.Statuses.{status_of_fault}
 
 -- the status of a call that wrote the answer
@@ -28,6 +29,8 @@ status_of (answer.Played run) = run_status run
 status_of (answer.Circuit ready circuit) = status.Ok
 status_of (answer.Valued amplitudes) = status.Ok
 status_of (answer.Checked ready meets) = status.Ok
+status_of (answer.Made text) = status.Ok
+status_of (answer.Worked recipe run) = run_status run
 
 -- the answer's text
 abbrev pub text_of : {A : Type 0} → (A → Store) → Answer A → List ℕ
@@ -36,6 +39,8 @@ text_of store (answer.Played run) = run_text store run
 text_of store (answer.Circuit ready circuit) = circuit_text ready circuit
 text_of store (answer.Valued amplitudes) = text_under amplitudes.head amplitudes.live.items (store amplitudes.amps).value
 text_of store (answer.Checked ready meets) = check_text ready meets
+text_of store (answer.Made text) = text.items
+text_of store (answer.Worked recipe run) = work_text store recipe run
 
 -- there are few ranks, and the slots hold different live wires
 pub record MayPutAmplitudes {A : Type 0} (store : A → Store) (a : Amplitudes A) : Type 0 where
@@ -49,6 +54,8 @@ MayPut store (answer.Played run) = MayPutRun store run
 MayPut store (answer.Circuit ready circuit) = IsOneCircuit ready circuit
 MayPut store (answer.Valued amplitudes) = MayPutAmplitudes store amplitudes
 MayPut store (answer.Checked ready meets) = Unit {0}
+MayPut store (answer.Made text) = Unit {0}
+MayPut store (answer.Worked recipe run) = MayPutRun store run
 
 -- ---- what the answer is due for
 -- for programs that have no fault
@@ -58,6 +65,10 @@ pub record AnswersPrograms {A : Type 0} (store : A → Store) (c : Command) (p :
 -- for the text
 pub record AnswersText {A : Type 0} (store : A → Store) (c : Command) (text : List ℕ) (a : Answer A) : Type 0 where
   pub due : DueOf c text (status_of a) (text_of store a)
+
+-- for a command on a made program
+pub record AnswersMaking {A : Type 0} (store : A → Store) (m : Making) (a : Answer A) : Type 0 where
+  pub due : DueOfMaking m (status_of a) (text_of store a)
 
 -- for what came from the source
 pub record AnswersSource {A : Type 0} (store : A → Store) (words : List (List ℕ)) (from from' : SourceView) (a : Answer A) : Type 0 where

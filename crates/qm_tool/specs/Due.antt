@@ -1,5 +1,7 @@
 -- The status and the bytes that are due for words and a text, while no end fails
-use Rattle.std.specs.Prelude.{◌≡◌, ℕ, ◌<◌, ◌≤◌, ◌⊎◌, ◌↔◌, Bool, true, false, IsTrue, List, ◌++◌, Option, Some, None, Ok, Err, length}
+use Rattle.std.specs.Prelude.{◌≡◌, ℕ, ◌<◌, ◌≤◌, ◌⊎◌, ◌↔◌, Bool, true, false, IsTrue, List, [], ◌++◌, Option, Some, None, Ok, Err, length}
+use Rattle.qm_denot.specs.Circuits.{Amplitudes}
+use Rattle.qm_denot.specs.Stores.{IsReducedForm}
 use Rattle.qm_instr.specs.Programs.{Programs, IsInRange}
 use Rattle.qm_check.specs.declared.Fault.{Fault}
 use Rattle.qm_check.specs.Checks.{IsReady, IsFirstFault}
@@ -14,17 +16,23 @@ use Rattle.qm_expand.specs.declared.ReadError.TheVariants as error
 use Rattle.qm_expand.specs.Reading.{Reads}
 use Rattle.qm_tool.specs.declared.command.Command.{Command}
 use Rattle.qm_tool.specs.declared.command.Command.TheVariants as command
+use Rattle.qm_tool.specs.declared.command.Making.{Making}
+use Rattle.qm_tool.specs.declared.command.Making.TheVariants as making
 use Rattle.qm_tool.specs.declared.command.Play.{Play}
+use Rattle.qm_tool.specs.declared.command.Recipe.{Recipe}
+use Rattle.qm_io.specs.declared.intake.TheConstants.{TEXT_LIMIT}
 use Rattle.qm_print.specs.declared.FaultLine.{FaultLine}
 use Rattle.qm_print.specs.declared.FaultLine.TheVariants as line
 use Rattle.qm_tool.specs.declared.status.Status.{Status}
 use Rattle.qm_tool.specs.declared.status.Status.TheVariants as status
-use Rattle.qm_tool.specs.Commands.{command_of, order_of, block_of}
-use Rattle.qm_tool.specs.Dues.{IsScheduleOf, IsDue}
+use Rattle.qm_tool.specs.Commands.{command_of, making_of, order_of, block_of, kind_word, recipe_text, IsNoCommand}
+use Rattle.qm_tool.specs.Dues.{IsScheduleOf, IsDue, Lowest}
 use Rattle.qm_print.specs.CheckText.{check_text}
 use Rattle.qm_print.specs.CircuitText.{circuit_text}
 use Rattle.qm_print.specs.FaultText.{fault_text}
-use Rattle.qm_print.specs.StateText.{IsStateText}
+use Rattle.qm_print.specs.JobText.{job_text}
+use Rattle.qm_print.specs.Slots.{full_slots}
+use Rattle.qm_print.specs.StateText.{IsStateText, line_count}
 
 -- ---- the reading of a text
 -- the text reads as programs that have no fault
@@ -80,6 +88,30 @@ EndsWith play text bytes = OnReady (RunsTo true play) text bytes
 -- the run stops: the bytes are the line that says where and why, and the block
 abbrev pub StopsWith : Play → List ℕ → List ℕ → Type 0
 StopsWith play text bytes = OnReady (RunsTo false play) text bytes
+
+-- ---- made programs
+-- the text is the job text of what the schedule leaves
+pub record IsJobText (r : Recipe) (p : Programs) (schedule text : List ℕ) : Type 0 where
+  pub numerators : Amplitudes
+  pub exponent : ℕ
+  pub form : IsReducedForm numerators exponent (replay p schedule).circuit
+  pub whole : text ≡ job_text (kind_word r.kind) (record {
+    size = r.size;
+    number = r.number;
+    events = length schedule;
+    protocol = protocol_total p;
+    scale = exponent;
+    lines = line_count numerators (full_slots p (replay p schedule).tables.slots);
+  })
+
+-- the bytes are due where the lowest rank that may go on has each turn; whether all ranks end
+pub record JobRunsTo (complete : Bool) (r : Recipe) (p : Programs) (bytes : List ℕ) : Type 0 where
+  pub in_range : IsInRange p
+  pub due : IsDue p Lowest (IsJobText r p) (λ schedule. []) bytes complete
+
+-- the made text reads as programs for which the bytes are due
+abbrev pub WorksTo : Bool → Recipe → List ℕ → Type 0
+WorksTo complete r bytes = OnReady (JobRunsTo complete r) (recipe_text r) bytes
 
 -- ---- the one circuit
 -- the text is the state text of the programs' one circuit, with one division by root2 for each protocol measurement
@@ -170,11 +202,19 @@ abbrev pub DueOf : Command → List ℕ → Status → List ℕ → Type 0
 DueOf c text status.Refused bytes = RefusedWith text bytes
 DueOf c text s bytes = OnReady (AnswersReady s c) text bytes
 
+-- for a command on a made program
+abbrev pub DueOfMaking : Making → Status → List ℕ → Type 0
+DueOfMaking (making.Gen r) status.Ok bytes = bytes ≡ recipe_text r
+DueOfMaking (making.Job r) status.Ok bytes = WorksTo true r bytes
+DueOfMaking (making.Job r) status.Stopped bytes = WorksTo false r bytes
+DueOfMaking m s bytes = ⊥
+
 -- for words and all bytes that a source has
 pub data Due (words : List (List ℕ)) (text : List ℕ) : Status → List ℕ → Type 0 where
-  NoCommand : command_of words ≡ None → Due words text status.Usage (fault_text line.Usage)
-  TooMuch : (c : Command) → command_of words ≡ Some c → 1048576 < length text → Due words text status.TooLong (fault_text line.TooLong)
-  Whole : (c : Command) (s : Status) (bytes : List ℕ) → command_of words ≡ Some c → length text ≤ 1048576 → DueOf c text s bytes → Due words text s bytes
+  NoCommand : IsNoCommand words → Due words text status.Usage (fault_text line.Usage)
+  Makes : (m : Making) (s : Status) (bytes : List ℕ) → making_of words ≡ Some m → DueOfMaking m s bytes → Due words text s bytes
+  TooMuch : (c : Command) → command_of words ≡ Some c → TEXT_LIMIT < length text → Due words text status.TooLong (fault_text line.TooLong)
+  Whole : (c : Command) (s : Status) (bytes : List ℕ) → command_of words ≡ Some c → length text ≤ TEXT_LIMIT → DueOf c text s bytes → Due words text s bytes
 
 -- ---- texts of which no run stops
 -- the text reads as programs of which no legal schedule comes to a refused event, and none to a stuck state or the rendezvous run ends

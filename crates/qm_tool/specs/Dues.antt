@@ -10,7 +10,7 @@ use Rattle.qm_proto.specs.Model.Schedules.{state_at_start, replay, IsLegal, IsCo
 use Rattle.qm_proto.specs.Model.Orders.{Words, IsOrderFrom, IsFirstAround, from_the_lowest}
 use Rattle.qm_machine.specs.declared.Halt.{Halt}
 use Rattle.qm_machine.specs.Keeps.{MachineView, HasEnded, state_of}
-use Rattle.qm_ranks.specs.Seeds.{seed_words}
+use Rattle.qm_seed.specs.Seeds.{seed_words}
 use Rattle.qm_print.specs.FaultText.{stopped_line}
 
 -- ---- the due text of a schedule, whatever schedule it is
@@ -25,7 +25,8 @@ pub record CompleteWith (p : Programs) (IsState : List ℕ → Type 0) (schedule
 -- a state stops a run in which these ranks may have the next turn: one of them is enabled and refused, or the state is stuck and the rank
 -- is the lowest that has events left
 pub data Stops (p : Programs) (s : State) (IsNext : ℕ → Type 0) (rank : ℕ) : Cause → Type 0 where
-  Refused : (c : Cause) → IsNext rank → rank < length p.ranks → enabled p s.tables rank ≡ true → IsRefused p s rank c → Stops p s IsNext rank c
+  Refused : (c : Cause) → IsNext rank → rank < length p.ranks → enabled p s.tables rank ≡ true
+      → IsRefused p s rank c → Stops p s IsNext rank c
   Stuck : IsStuck p s.tables → IsLowestLeft p s.tables rank → Stops p s IsNext rank cause.Stuck
 
 -- the schedule is legal and the run stops at its end; the text is the line that says where and why, and the block
@@ -57,9 +58,12 @@ IsTurnAfter p o schedule rank = IsFirstAround p (replay p schedule).tables (orde
 
 -- a text is due where the ranks take their turns in this order: with the state texts of schedules, and a block for each schedule. Whether
 -- the run is complete
-pub data IsDue (p : Programs) (o : Order) (IsState : List ℕ → List ℕ → Type 0) (block : List ℕ → List ℕ) (text : List ℕ) : Bool → Type 0 where
-  Completes : (schedule : List ℕ) → IsScheduleOf p o schedule → CompleteWith p (IsState schedule) schedule (block schedule) text → IsDue p o IsState block text true
-  StopsShort : (schedule : List ℕ) → IsScheduleOf p o schedule → StoppedWith p (IsTurnAfter p o schedule) schedule (block schedule) text → IsDue p o IsState block text false
+pub data IsDue
+    (p : Programs) (o : Order) (IsState : List ℕ → List ℕ → Type 0) (block : List ℕ → List ℕ) (text : List ℕ) : Bool → Type 0 where
+  Completes : (schedule : List ℕ) → IsScheduleOf p o schedule
+      → CompleteWith p (IsState schedule) schedule (block schedule) text → IsDue p o IsState block text true
+  StopsShort : (schedule : List ℕ) → IsScheduleOf p o schedule
+      → StoppedWith p (IsTurnAfter p o schedule) schedule (block schedule) text → IsDue p o IsState block text false
 
 -- ---- a machine that was played in this order from its start
 

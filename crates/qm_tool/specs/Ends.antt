@@ -3,7 +3,7 @@ use Rattle.std.specs.Prelude.{◌≡◌, ℕ, ◌<◌, ◌≤◌, Bool, List, le
 use Rattle.qm_denot.specs.Circuits.{Amplitudes}
 use Rattle.qm_instr.specs.Programs.{Programs}
 use Rattle.qm_proto.specs.Model.Schedules.{protocol_total}
-use Rattle.qm_ideal.specs.OneCircuits.{number_of_bits}
+use Rattle.qm_bits.specs.Numbers.{number_of_bits}
 use Rattle.qm_machine.specs.Keeps.{MachineView, state_of}
 use Rattle.qm_print.specs.declared.Head.{Head}
 use Rattle.qm_print.specs.declared.Live.{Live}

@@ -2,6 +2,7 @@ pub mod Statuses
 pub mod Dues
 pub mod Commands
 pub mod Due
+pub mod Lines
 pub mod Reading
 pub mod Calls
 pub mod Ends

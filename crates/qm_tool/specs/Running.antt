@@ -1,5 +1,5 @@
 -- A machine that was played: its status, its text, and what must hold before it is written
-use Rattle.std.specs.Prelude.{◌≡◌, ℕ, ◌≤◌, List, ◌++◌, Option, Some, None}
+use Rattle.std.specs.Prelude.{◌≡◌, ℕ, ◌≤◌, List, ◌++◌, length, Option, Some, None}
 use Rattle.qm_denot.specs.Stores.{Store, StandsFor}
 use Rattle.qm_instr.specs.Programs.{Programs, IsInRange}
 use Rattle.qm_machine.specs.declared.Halt.{Halt}
@@ -7,12 +7,16 @@ use Rattle.qm_machine.specs.Keeps.{MachineView, state_of}
 use Rattle.qm_print.specs.declared.FaultLine.{FaultLine}
 use Rattle.qm_print.specs.declared.FaultLine.TheVariants as line
 use Rattle.qm_print.specs.FaultText.{fault_text, NamesNoAnswers}
+use Rattle.qm_print.specs.declared.JobNumbers.{JobNumbers}
+use Rattle.qm_print.specs.JobText.{job_text}
 use Rattle.qm_print.specs.Slots.{AreLive, full_slots}
+use Rattle.qm_print.specs.StateText.{line_count}
 use Rattle.qm_tool.specs.declared.command.Play.{Play}
+use Rattle.qm_tool.specs.declared.command.Recipe.{Recipe}
 use Rattle.qm_tool.specs.declared.running.Run.{Run}
 use Rattle.qm_tool.specs.declared.status.Status.{Status}
 use Rattle.qm_tool.specs.declared.status.Status.TheVariants as status
-use Rattle.qm_tool.specs.Commands.{order_of, block_of}
+use Rattle.qm_tool.specs.Commands.{order_of, block_of, kind_word}
 use Rattle.qm_tool.specs.Dues.{HasPlayed}
 use Rattle.qm_tool.specs.Ends.{HeadSays, bits_in, text_under}
 use Rattle.qm_tool.specs.Statuses.{status_of_fault}
@@ -42,6 +46,21 @@ end_text store run = text_where (text_under run.head run.live.items (store run.m
 -- and the block
 abbrev pub run_text : {A : Type 0} → (A → Store) → Run A → List ℕ
 run_text store run = end_text store run ++ block_of run.play run.machine.programs run.machine.schedule
+
+-- the summary of a run of a made program
+abbrev pub job_numbers : {A : Type 0} → (A → Store) → Recipe → Run A → JobNumbers
+job_numbers store r run = record {
+  size = r.size;
+  number = r.number;
+  events = length run.machine.schedule;
+  protocol = run.head.protocol;
+  scale = run.head.scale;
+  lines = line_count (store run.machine.amps).value run.live.items;
+}
+
+-- the line of the stop, or the job text where there is none
+abbrev pub work_text : {A : Type 0} → (A → Store) → Recipe → Run A → List ℕ
+work_text store r run = text_where (job_text (kind_word r.kind) (job_numbers store r run)) run.stop
 
 -- the line of a stop can be written
 abbrev pub MayPutStop : Option FaultLine → Type 0

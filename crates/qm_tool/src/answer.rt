@@ -4,13 +4,15 @@ ghost use Rattle.qm_io.specs.Ends.{Puts};
 ghost use Rattle.qm_tool.specs.Answers.{status_of, text_of, MayPut};
 
 use crate::circuits::Amplitudes;
+use crate::command::Recipe;
+use crate::made::put_work;
 use crate::running::{Run, put_run};
 use crate::status::Status;
 use qm_check::Ready;
 use qm_denot::Amps;
 use qm_ideal::OneCircuit;
 use qm_io::{Failed, Sink};
-use qm_print::{FaultLine, put_check, put_circuit, put_fault, put_state};
+use qm_print::{FaultLine, put_bytes, put_check, put_circuit, put_fault, put_state};
 
 /// What a command answers.
 #[derive(Drop)]
@@ -25,6 +27,10 @@ pub(crate) enum Answer<A: Amps> {
     Valued { amplitudes: Amplitudes<A> },
     /// The check of programs, and whether their rendezvous run ends.
     Checked { ready: Ready, meets: bool },
+    /// The text of a made program.
+    Made { text: Vec<u8> },
+    /// A run of a made program.
+    Worked { recipe: Recipe, run: Run<A> },
 }
 
 impl<A: Amps> Answer<A> {
@@ -35,7 +41,11 @@ impl<A: Amps> Answer<A> {
         match self {
             Answer::Fault { fault } => Status::of_fault(fault),
             Answer::Played { run } => run.status(),
-            Answer::Circuit { .. } | Answer::Valued { .. } | Answer::Checked { .. } => Status::Ok,
+            Answer::Worked { run, .. } => run.status(),
+            Answer::Circuit { .. }
+            | Answer::Valued { .. }
+            | Answer::Checked { .. }
+            | Answer::Made { .. } => Status::Ok,
         }
     }
 }
@@ -53,6 +63,8 @@ fn put_text<A: Amps, O: Sink>(sink: &mut O, answer: Answer<A>) -> Result<(), Fai
             put_state(sink, &amplitudes.head, &amplitudes.live, &amplitudes.amps)
         }
         Answer::Checked { ready, meets } => put_check(sink, &ready, meets),
+        Answer::Made { text } => put_bytes(sink, &text),
+        Answer::Worked { recipe, run } => put_work(sink, recipe, &run),
     }
 }
 

@@ -1,7 +1,10 @@
 //! The commands, and the one reading of their words.
-ghost use Rattle.std.specs.Prelude.{◌≡◌, map};
+ghost use Rattle.std.specs.Prelude.{◌≡◌, map, IfSome};
 ghost use Rattle.std.specs.String.{string_bytes};
-ghost use Rattle.qm_tool.specs.Commands.{command_of, one_word, seed_of, two_words};
+ghost use Rattle.qm_gen.specs.Sizes.{IsSize};
+ghost use Rattle.qm_tool.specs.Commands.{command_of, four_words, kind_of, making_of, number_of, one_word, recipe_of, size_of, two_words, IsSized, IsSizedMaking};
+
+use qm_gen::GenKind;
 
 /// How a program is run: which rank has each turn.
 #[derive(Clone, Copy, PartialEq, Eq, Debug)]
@@ -14,7 +17,7 @@ pub enum Play {
     Trace { seed: u64 },
 }
 
-/// A command on a program.
+/// A command on the program that the source gives.
 #[derive(Clone, Copy, PartialEq, Eq, Debug)]
 pub enum Command {
     /// Runs it.
@@ -27,30 +30,51 @@ pub enum Command {
     Check,
 }
 
-/// The most digits that a seed may have.
+/// A made program: its kind, its size, and the number from which the outcomes on its tapes are drawn.
+#[derive(Clone, Copy, PartialEq, Eq, Debug)]
+pub struct Recipe {
+    pub kind: GenKind,
+    /// A ring's size is 1 to 10,000, a GHZ state's 2 to 10, a parity's 1 to 9,000.
+    pub size: u32,
+    pub number: u64,
+}
+
+/// A command on a made program. It asks nothing of the source.
+#[derive(Clone, Copy, PartialEq, Eq, Debug)]
+pub enum Making {
+    /// Writes its text.
+    Gen { recipe: Recipe },
+    /// Runs it, and writes a summary of the run.
+    Job { recipe: Recipe },
+}
+
+/// The most digits that a number may have.
 const MOST_DIGITS: usize = 20;
 
-/// The largest seed.
-const LARGEST_SEED: u128 = 18_446_744_073_709_551_615;
+/// The most digits that a size may have.
+const MOST_SIZE_DIGITS: usize = 9;
 
-/// The seed that a word of 1 to 20 decimal digits is, if its value is at most 2^64 - 1.
-fn seed_of(word: &[u8]) -> Option<u64>
-    ensures { result ≡ seed_of word.now }
+/// The largest number.
+const LARGEST_NUMBER: u128 = 18_446_744_073_709_551_615;
+
+/// The number that a word of 1 to 20 decimal digits is, if its value is at most 2^64 - 1.
+fn number_of(word: &[u8]) -> Option<u64>
+    ensures { result ≡ number_of word.now }
 {
     if word.is_empty() || word.len() > MOST_DIGITS {
         return None;
     }
-    let mut seed = 0u128;
+    let mut number = 0u128;
     for byte in word {
         if !byte.is_ascii_digit() {
             return None;
         }
-        seed = 10 * seed + u128::from(*byte - b'0');
-        if seed > LARGEST_SEED {
+        number = 10 * number + u128::from(*byte - b'0');
+        if number > LARGEST_NUMBER {
             return None;
         }
     }
-    Some(seed as u64)
+    Some(number as u64)
 }
 
 /// The command that one word is.
@@ -73,12 +97,12 @@ fn two_words(name: &String, word: &String) -> Option<Command>
     ensures { result ≡ two_words (string_bytes name.now) (string_bytes word.now) }
 {
     if name.as_str() == "sched" {
-        let seed = seed_of(word.as_str().as_bytes())?;
+        let seed = number_of(word.as_str().as_bytes())?;
         Some(Command::Run {
             play: Play::Sched { seed },
         })
     } else if name.as_str() == "trace" {
-        let seed = seed_of(word.as_str().as_bytes())?;
+        let seed = number_of(word.as_str().as_bytes())?;
         Some(Command::Run {
             play: Play::Trace { seed },
         })
@@ -89,7 +113,7 @@ fn two_words(name: &String, word: &String) -> Option<Command>
     }
 }
 
-/// The command that words are, matched exactly. `None` where they are none of the forms `plain`, `sched K`, `trace K`, `mono`, `mono amps`
+/// The command on a program of the source that words are, matched exactly. `None` where they are none of the forms `plain`, `sched K`, `trace K`, `mono`, `mono amps`
 /// and `check`.
 pub(crate) fn command_of(words: &[String]) -> Option<Command>
     ensures { result ≡ command_of (map string_bytes words.now) }
@@ -97,6 +121,78 @@ pub(crate) fn command_of(words: &[String]) -> Option<Command>
     match words {
         [word] => one_word(word),
         [name, word] => two_words(name, word),
+        _ => None,
+    }
+}
+
+/// The kind that a word is.
+fn kind_of(word: &String) -> Option<GenKind>
+    ensures { result ≡ kind_of (string_bytes word.now) }
+{
+    if word.as_str() == "ring" {
+        Some(GenKind::Ring)
+    } else if word.as_str() == "ghz" {
+        Some(GenKind::Ghz)
+    } else if word.as_str() == "parity" {
+        Some(GenKind::Parity)
+    } else {
+        None
+    }
+}
+
+/// The size that a word of 1 to 9 decimal digits is, if programs of this kind have it.
+fn size_of(kind: GenKind, word: &[u8]) -> Option<u32>
+    ensures size { result ≡ size_of kind word.now }
+    ensures sized { IfSome result (IsSize kind) }
+{
+    if word.len() > MOST_SIZE_DIGITS {
+        return None;
+    }
+    let size = u32::try_from(number_of(word)?).ok()?;
+    if kind.has_size(size) {
+        Some(size)
+    } else {
+        None
+    }
+}
+
+/// The made program that three words are.
+fn recipe_of(kind: &String, size: &String, number: &String) -> Option<Recipe>
+    ensures recipe { result ≡ recipe_of (string_bytes kind.now) (string_bytes size.now)
+        (string_bytes number.now) }
+    ensures sized { IfSome result IsSized }
+{
+    let kind = kind_of(kind)?;
+    let size = size_of(kind, size.as_str().as_bytes())?;
+    let number = number_of(number.as_str().as_bytes())?;
+    Some(Recipe { kind, size, number })
+}
+
+/// The command on a made program that four words are.
+fn four_words(name: &String, kind: &String, size: &String, number: &String) -> Option<Making>
+    ensures making { result ≡ four_words (string_bytes name.now) (string_bytes kind.now)
+        (string_bytes size.now) (string_bytes number.now) }
+    ensures sized { IfSome result IsSizedMaking }
+{
+    if name.as_str() == "gen" {
+        let recipe = recipe_of(kind, size, number)?;
+        Some(Making::Gen { recipe })
+    } else if name.as_str() == "job" {
+        let recipe = recipe_of(kind, size, number)?;
+        Some(Making::Job { recipe })
+    } else {
+        None
+    }
+}
+
+/// The command on a made program that words are, matched exactly. `None` where they are neither of the forms `gen KIND SIZE NUMBER` and
+/// `job KIND SIZE NUMBER`.
+pub(crate) fn making_of(words: &[String]) -> Option<Making>
+    ensures making { result ≡ making_of (map string_bytes words.now) }
+    ensures sized { IfSome result IsSizedMaking }
+{
+    match words {
+        [name, kind, size, number] => four_words(name, kind, size, number),
         _ => None,
     }
 }

@@ -1,5 +1,6 @@
 //! The laws of what is due for words and a text.
 ghost use Rattle.qm_tool.specs.Due.{OneAnswer, OneCircuitLaw, OneText, SomeAnswer};
+ghost use Rattle.qm_tool.specs.Lines.{SomeLine};
 
 /// For words and all bytes that a source has, one status and one text alone is due: a text is read as the programs of one input or refused
 /// for one reason, the command determines one schedule of the programs, it ends or stops in one way, and its circuit has one reduced form.
@@ -23,4 +24,10 @@ pub fn one_text_law()
 /// early.
 pub fn one_circuit_law()
     ensures { OneCircuitLaw }
+{}
+
+/// Every state text with which a run ends has an amplitude line: the circuit of a complete schedule isn't zero, and its amplitudes are zero
+/// wherever a wire that is in no slot is one.
+pub fn some_line_law()
+    ensures { SomeLine }
 {}

@@ -6,12 +6,13 @@ mod circuits;
 mod command;
 mod ends;
 pub mod laws;
+mod made;
 mod reading;
 mod running;
 mod status;
 mod top;
 
-pub use command::{Command, Play};
+pub use command::{Command, Making, Play, Recipe};
 pub use status::Status;
 pub use top::tool_plain;
 

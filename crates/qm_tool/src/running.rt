@@ -6,16 +6,16 @@ ghost use Rattle.qm_io.specs.Ends.{Puts};
 ghost use Rattle.qm_machine.specs.Keeps.{Keeps};
 ghost use Rattle.qm_tool.specs.Commands.{order_of, block_of};
 ghost use Rattle.qm_tool.specs.Dues.{HasPlayed};
-ghost use Rattle.qm_tool.specs.Running.{IsRun, IsStopOf, MayPutRun, end_text, run_status, run_text};
+ghost use Rattle.qm_tool.specs.Running.{IsRun, IsStopOf, MayPutRun, end_text, job_numbers, run_status, run_text};
 
-use crate::command::Play;
+use crate::command::{Play, Recipe};
 use crate::ends::{full_slots, head_of};
 use crate::status::Status;
 use qm_check::Ready;
 use qm_denot::Amps;
 use qm_io::{Failed, Sink};
 use qm_machine::{Machine, State};
-use qm_print::{FaultLine, Head, Live, put_fault, put_state, put_trace};
+use qm_print::{FaultLine, Head, JobNumbers, Live, count_lines, put_fault, put_state, put_trace};
 use qm_ranks::{play_order, play_seed};
 use std::alloc::{AllocError, Global};
 
@@ -66,6 +66,28 @@ impl<A: Amps> Run<A> {
         match &self.stop {
             Some(stop) => Status::of_fault(stop),
             None => Status::Ok,
+        }
+    }
+
+    /// The line of where and why it stopped, if it did.
+    pub(crate) fn stop(&self) -> Option<FaultLine>
+        ensures { result ≡ self.now.stop }
+    {
+        self.stop
+    }
+
+    /// The summary of a run of a made program.
+    pub(crate) fn numbers(&self, recipe: Recipe) -> JobNumbers
+        requires { MayPutRun A.store self.now }
+        ensures { result ≡ job_numbers A.store recipe self.now }
+    {
+        JobNumbers {
+            size: recipe.size,
+            number: recipe.number,
+            events: self.machine.schedule().len() as u64,
+            protocol: self.head.protocol,
+            scale: self.head.scale,
+            lines: count_lines(&self.live, self.machine.amps()),
         }
     }
 }

@@ -1,24 +1,26 @@
 //! The top call.
-ghost use Rattle.std.specs.Prelude.{◌≡◌, ◌≢◌, ◌≤◌, ◌⊎◌, List, ℕ, length, map, IfOk, None, Some};
+ghost use Rattle.std.specs.Prelude.{◌≡◌, ◌≢◌, ◌≤◌, ◌⊎◌, true, false, List, ℕ, length, map, IfOk, None, Some};
 ghost use Rattle.std.specs.Result.{ForOk};
 ghost use Rattle.std.specs.String.{string_bytes};
 ghost use Rattle.qm_io.specs.Ends.{Rose, Took};
 ghost use Rattle.qm_io.specs.Intake.{GaveMore, FailedOnce};
 ghost use Rattle.qm_check.specs.Checks.{IsReady};
 ghost use Rattle.qm_tool.specs.Answers.{MayPut, AnswersPrograms, AnswersText, AnswersSource, Concludes};
-ghost use Rattle.qm_tool.specs.Commands.{command_of};
-ghost use Rattle.qm_tool.specs.Due.{Due, OnReady, IsSure, EndsWith, StatesOneCircuit, StopsWith, RefusedWith, IsCircuitText, IsAmplitudesText, IsCheckText, WaitsWith, WideWith, OverflowsWith};
-ghost use Rattle.qm_tool.specs.Calls.{AsksForCircuit, Ran, UnderRun, Wrote};
+ghost use Rattle.qm_tool.specs.Commands.{command_of, making_of, recipe_text, IsNoCommand};
+ghost use Rattle.qm_tool.specs.Due.{Due, DueOfMaking, OnReady, IsSure, EndsWith, StatesOneCircuit, StopsWith, RefusedWith, IsCircuitText, IsAmplitudesText, IsCheckText, WaitsWith, WideWith, OverflowsWith, WorksTo};
+ghost use Rattle.qm_tool.specs.Lines.{HasAmplitudeLine};
+ghost use Rattle.qm_tool.specs.Calls.{AsksForCircuit, Ran, UnderJob, UnderRun, Wrote, WroteAlone};
 
 use crate::answer::{Answer, put_answer};
 use crate::circuits::{amplitudes_of, check_of, circuit_of};
-use crate::command::{Command, Play, command_of};
+use crate::command::{Command, Making, Play, Recipe, command_of, making_of};
+use crate::made::answer_making;
 use crate::reading::{Unread, read_ready};
 use crate::running::Run;
 use crate::status::Status;
 use qm_check::Ready;
 use qm_denot::Amps;
-use qm_io::{Sink, Source, TextError, read_all};
+use qm_io::{Sink, Source, TEXT_LIMIT, TextError, read_all};
 use qm_print::FaultLine;
 use qm_store::ScaledAmps;
 use std::alloc::{AllocError, Global};
@@ -51,7 +53,7 @@ fn answer_text(
     command: Command,
     text: &[u8],
 ) -> Result<Answer<ScaledAmps>, AllocError>
-    requires { length text.now ≤ 1048576 }
+    requires { length text.now ≤ TEXT_LIMIT }
     ensures due { IfOk result (AnswersText (⟦<ScaledAmps as Amps>⟧.store) command text.now) }
     ensures may_put { IfOk result (MayPut (⟦<ScaledAmps as Amps>⟧.store)) }
 {
@@ -64,12 +66,13 @@ fn answer_text(
     }
 }
 
-/// What is due for the words and what the source gives. `AllocError` comes from the allocator alone.
-fn answer_to<I: Source>(
+/// What is due for words that make no program, and what the source gives. `AllocError` comes from the allocator alone.
+fn answer_reading<I: Source>(
     alloc: Global,
     words: &[String],
     source: &mut I,
 ) -> Result<Answer<ScaledAmps>, AllocError>
+    requires { making_of (map string_bytes words.now) ≡ None }
     ensures due { IfOk result (AnswersSource (⟦<ScaledAmps as Amps>⟧.store)
         (map string_bytes words.now) (I.seen source.old) (I.seen source.new)) }
     ensures may_put { IfOk result (MayPut (⟦<ScaledAmps as Amps>⟧.store)) }
@@ -93,6 +96,24 @@ fn answer_to<I: Source>(
     }
 }
 
+/// What is due for the words and what the source gives, where they ask for it. `AllocError` comes from the allocator alone.
+fn answer_to<I: Source>(
+    alloc: Global,
+    words: &[String],
+    source: &mut I,
+) -> Result<Answer<ScaledAmps>, AllocError>
+    ensures due { IfOk result (AnswersSource (⟦<ScaledAmps as Amps>⟧.store)
+        (map string_bytes words.now) (I.seen source.old) (I.seen source.new)) }
+    ensures may_put { IfOk result (MayPut (⟦<ScaledAmps as Amps>⟧.store)) }
+    ensures usage { IsNoCommand (map string_bytes words.now)
+        → result ≡ Ok (Answer.Fault FaultLine.Usage) }
+{
+    match making_of(words) {
+        Some(making) => answer_making(alloc, making),
+        None => answer_reading(alloc, words, source),
+    }
+}
+
 /// Writes the answer of a command, where memory was left for it, and tells how the command ended.
 fn conclude<A: Amps, O: Sink>(sink: &mut O, answer: Result<Answer<A>, AllocError>) -> Status
     requires { ForOk answer (MayPut A.store) }
@@ -110,12 +131,14 @@ fn conclude<A: Amps, O: Sink>(sink: &mut O, answer: Result<Answer<A>, AllocError
 
 /// Does a command: takes its words and a source, writes what is due to the sink and flushes it, and tells how the command ended.
 ///
-/// The commands are `plain`, `sched K`, `trace K`, `mono`, `mono amps` and `check`, where K has 1 to 20 decimal digits and is at most
-/// 2^64 - 1; all other words are answered by `Usage`. Each reads programs. The first three give the ranks their turns until all have ended,
+/// The commands are `plain`, `sched K`, `trace K`, `mono`, `mono amps`, `check`, `gen KIND SIZE NUMBER` and `job KIND SIZE NUMBER`, where K
+/// and NUMBER have 1 to 20 decimal digits and are at most 2^64 - 1, KIND is `ring`, `ghz` or `parity`, and SIZE has 1 to 9 decimal digits
+/// and is 1 to 10,000 for a ring, 2 to 10 for a GHZ state and 1 to 9,000 for a parity; all other words are answered by `Usage`. All but
+/// `gen` and `job` read programs. The first three give the ranks their turns until all have ended,
 /// and write the state text: under `plain` each turn is the lowest rank's that is neither ended nor blocked, under the other two the one's
 /// that the seed K chooses, and `trace K` writes the events of the turns too. `mono` writes the text of the programs' one circuit, `mono
-/// amps` the state text of its amplitudes, and `check` the totals of the programs and whether their rendezvous run ends. All memory is
-/// taken before the first byte is written.
+/// amps` the state text of its amplitudes, and `check` the totals of the programs and whether their rendezvous run ends. `gen` writes the
+/// text of a made program, and `job` runs it as `plain` does and writes a summary of the run. All memory is taken before the first byte is written.
 pub fn tool_plain<I: Source, O: Sink>(
     alloc: Global,
     words: &[String],
@@ -141,6 +164,13 @@ pub fn tool_plain<I: Source, O: Sink>(
         → Wrote (StatesOneCircuit play)
         (I.seen source.old) (I.seen source.new) (O.seen sink.old) (O.seen sink.new) }
 
+    // That state text has an amplitude line.
+    ensures some_line { (play : Play)
+        → command_of (map string_bytes words.now) ≡ Some (Command.Run play)
+        → result ≡ Status.Ok
+        → Wrote (OnReady (HasAmplitudeLine play))
+        (I.seen source.old) (I.seen source.new) (O.seen sink.old) (O.seen sink.new) }
+
     // The other commands write what is due for the text's programs.
     ensures circuit { command_of (map string_bytes words.now) ≡ Some Command.Mono
         → result ≡ Status.Ok
@@ -155,16 +185,31 @@ pub fn tool_plain<I: Source, O: Sink>(
         → Wrote (OnReady IsCheckText)
         (I.seen source.old) (I.seen source.new) (O.seen sink.old) (O.seen sink.new) }
 
+    // Nothing is asked of the source for a made program. Its text is written, or the summary of the run in
+    // which each turn is the lowest rank's that is neither ended nor blocked.
+    ensures made { (recipe : Recipe)
+        → making_of (map string_bytes words.now) ≡ Some (Making.Gen recipe)
+        → result ≡ Status.Ok
+        → WroteAlone (λ bytes. bytes ≡ recipe_text recipe)
+        (I.seen source.old) (I.seen source.new) (O.seen sink.old) (O.seen sink.new) }
+    ensures worked { (recipe : Recipe)
+        → making_of (map string_bytes words.now) ≡ Some (Making.Job recipe)
+        → result ≡ Status.Ok
+        → WroteAlone (WorksTo true recipe)
+        (I.seen source.old) (I.seen source.new) (O.seen sink.old) (O.seen sink.new) }
+
     // Each other status has its cause.
-    ensures usage { result ≡ Status.Usage → command_of (map string_bytes words.now) ≡ None }
+    ensures usage { result ≡ Status.Usage → IsNoCommand (map string_bytes words.now) }
     ensures read_fault { result ≡ Status.ReadFault
         → FailedOnce (I.seen source.old) (I.seen source.new) }
     ensures too_long { result ≡ Status.TooLong → GaveMore (I.seen source.old) (I.seen source.new) }
     ensures refused { result ≡ Status.Refused
         → Wrote RefusedWith
         (I.seen source.old) (I.seen source.new) (O.seen sink.old) (O.seen sink.new) }
-    ensures stopped { result ≡ Status.Stopped → UnderRun (map string_bytes words.now)
-        (λ play. Wrote (StopsWith play)
+    ensures stopped { result ≡ Status.Stopped
+        → UnderRun (map string_bytes words.now) (λ play. Wrote (StopsWith play)
+        (I.seen source.old) (I.seen source.new) (O.seen sink.old) (O.seen sink.new))
+        ⊎ UnderJob (map string_bytes words.now) (λ recipe. WroteAlone (WorksTo false recipe)
         (I.seen source.old) (I.seen source.new) (O.seen sink.old) (O.seen sink.new)) }
     ensures waits { result ≡ Status.Waits → AsksForCircuit (map string_bytes words.now)
         × Wrote (OnReady WaitsWith)
@@ -182,7 +227,7 @@ pub fn tool_plain<I: Source, O: Sink>(
     ensures nothing { result ≡ Status.OutOfMemory → O.seen sink.new ≡ O.seen sink.old }
 
     // And each cause has its status, where no end fails and memory doesn't run out.
-    ensures no_command { command_of (map string_bytes words.now) ≡ None
+    ensures no_command { IsNoCommand (map string_bytes words.now)
         → (result ≡ Status.Usage) ⊎ (result ≡ Status.WriteFault) }
     ensures exact { (text : List ℕ) (s : Status) (bytes : List ℕ)
         → (I.seen source.old).left ≡ Some text
@@ -191,13 +236,19 @@ pub fn tool_plain<I: Source, O: Sink>(
         → result ≢ Status.OutOfMemory
         → Due (map string_bytes words.now) text s bytes
         → (result ≡ s) × Took (O.seen sink.old) (O.seen sink.new) bytes }
+    ensures exact_made { (making : Making) (s : Status) (bytes : List ℕ)
+        → ¬ Rose (O.seen sink.old).faults (O.seen sink.new).faults
+        → result ≢ Status.OutOfMemory
+        → making_of (map string_bytes words.now) ≡ Some making
+        → DueOfMaking making s bytes
+        → (result ≡ s) × Took (O.seen sink.old) (O.seen sink.new) bytes }
 
     // A text whose programs can come to no refused event and to no stuck state is run to its end.
     ensures complete { (play : Play) (text : List ℕ) → (I.seen source.old).left ≡ Some text
         → ¬ Rose (I.seen source.old).faults (I.seen source.new).faults
         → ¬ Rose (O.seen sink.old).faults (O.seen sink.new).faults
         → command_of (map string_bytes words.now) ≡ Some (Command.Run play)
-        → length text ≤ 1048576
+        → length text ≤ TEXT_LIMIT
         → IsSure text
         → (result ≡ Status.Ok) ⊎ (result ≡ Status.OutOfMemory) }
 {

@@ -56,15 +56,10 @@ fn halved(x: i128) -> Halves
     ensures low { pos 0 ≤ℤ result.rest }
     ensures high { result.rest ≤ℤ pos 1 }
 {
-    let half = x / 2;
-    let rest = x % 2;
-    if rest < 0 {
-        Halves {
-            half: half - 1,
-            rest: 1,
-        }
-    } else {
-        Halves { half, rest }
+    let half = x >> 1;
+    Halves {
+        half,
+        rest: x - half - half,
     }
 }
 

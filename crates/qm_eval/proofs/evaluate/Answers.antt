@@ -2,7 +2,7 @@ use Rattle.std.proofs.Common.{◌≡◌, ◌≤◌, ◌∙◌, List, [], length,
 use Rattle.qm_denot.specs.declared.Letter.{Letter}
 use Rattle.qm_denot.specs.Stores.{StandsFor}
 use Rattle.qm_instr.specs.Programs.{IsInRange}
-use Rattle.qm_ideal.specs.OneCircuits.{slot_of, wires_below, wires_in}
+use Rattle.qm_ideal.specs.OneCircuits.{slot_of, wires_below, wires_in, most_letters}
 use Rattle.qm_eval.specs.Live.{all_live, HasRoomFor, MakesLive, AllMayFollow, live_through}
 use Rattle.qm_eval.specs.Overflows.{NeverOverflows}
 use Rattle.qm_eval.proofs.CircuitLemmas.{letters_few, letters_follow, ends_fit, ends_hold}
@@ -20,7 +20,7 @@ do_letters-requires-clause-follow g c =
 pub do_letters-requires-clause-few : goal.do_letters-requires-clause-few
 do_letters-requires-clause-few g c =
     let ranges = subst IsInRange c.input.ensures.value c.ranks-ranks.ensures.in_range in
-    subst (λ (ls : List Letter). length ls ≤ 3200000) (sym c.letters.ensures) (letters_few c.args.ready.now c.input.ensures.ready ranges c.args.circuit.now c.requires.circuit)
+    subst (λ (ls : List Letter). length ls ≤ most_letters) (sym c.letters.ensures) (letters_few c.args.ready.now c.input.ensures.ready ranges c.args.circuit.now c.requires.circuit)
 
 pub make_slots_live-requires-clause-room : goal.make_slots_live-requires-clause-room
 make_slots_live-requires-clause-room g c =

@@ -15,7 +15,14 @@ part_at_start x =
 -- no wire, no parcel, and each rank before its first event
 abbrev pub tables_at_start : Programs → Tables
 tables_at_start p =
-    record { parts = λ r. part_at_start (rank_of p r); slots = λ r q. None; near = λ r. no_wires; far = λ r. no_wires; held = λ r. 0; lanes = λ a. [] }
+    record {
+      parts = λ r. part_at_start (rank_of p r);
+      slots = λ r q. None;
+      near = λ r. no_wires;
+      far = λ r. no_wires;
+      held = λ r. 0;
+      lanes = λ a. [];
+    }
 
 abbrev pub state_at_start : Programs → State
 state_at_start p = record { tables = tables_at_start p; circuit = [] }

@@ -13,7 +13,7 @@ use Rattle.qm_instr.specs.Programs.{Programs, IsInRange}
 use Rattle.qm_check.specs.Checks.{IsReady}
 use Rattle.qm_check.specs.Operands.{uses_of, gate_uses, partner_of}
 use Rattle.qm_check.specs.Slots.{full_after}
-use Rattle.qm_check.proofs.Faultless.{FindsSlots, IsStep, before}
+use Rattle.qm_check.proofs.Faultless.{FindsSlots, before}
 use Rattle.qm_check.proofs.Faultless as faultless
 use Rattle.qm_proto.specs.Model.State.{no_wire}
 use Rattle.qm_proto.specs.Model.Rows.{gate_letter}
@@ -21,10 +21,11 @@ use Rattle.qm_proto.specs.Model.Ideal.{IdealTables, IdealRule, ideal_enabled, id
 use Rattle.std.proofs.lemmas.Bool.{eqb-true}
 use Rattle.qm_runs.proofs.Confluence.ByView.{View, slot_wire, bit_in, made_in, rule_of, offered_read, reads, letters_by, view}
 use Rattle.qm_runs.proofs.Confluence.Helpers.{IsNext, Helps, helped, helps_one}
-use Rattle.qm_runs.proofs.Confluence.OnePlace.{Spot, InSlot, OnLane, ArePlaced, IsCounted}
+use Rattle.qm_runs.proofs.Confluence.OnePlace.{Spot, InSlot, OnLane, ArePlaced}
 use Rattle.qm_runs.proofs.Confluence.WellIdeal.{IsWell, at_step}
 use Rattle.qm_proto.proofs.Changes.{number_itself}
 use Rattle.qm_denot.proofs.OperandFacts.{Each, EachOperand}
+use Rattle.qm_runs.specs.Following.Follows.{IsCounted}
 
 -- the instruction's letters name the wire that it counts
 abbrev pub names_made : Instr → Bool

@@ -13,7 +13,7 @@ use Rattle.qm_runs.specs.Confluence.{IdealWeightLaw}
 use Rattle.qm_runs.proofs.Confluence.Effects.{stepped, part_act, part_stepped, part_elsewhere}
 use Rattle.qm_runs.proofs.Confluence.ByView.{View, letters_by, acts_by, view}
 use Rattle.qm_runs.proofs.Confluence.Helpers.{IsNext, next_where_able}
-use Rattle.qm_runs.proofs.Confluence.OnePlace.{IsCounted, CountsGrow, counted_on, InSlot}
+use Rattle.qm_runs.proofs.Confluence.OnePlace.{InSlot}
 use Rattle.qm_runs.proofs.Confluence.WellIdeal.{IsWell, at_step, well_step, well_start}
 use Rattle.qm_runs.proofs.Confluence.LetterWires.{letters_where, names_made, slot_found, offered}
 use Rattle.qm_runs.proofs.Confluence.ProperLetters.{letters_proper}
@@ -22,6 +22,8 @@ use Rattle.qm_check.specs.Slots.{full_after}
 use Rattle.qm_check.proofs.Faultless.{before}
 use Rattle.qm_proto.proofs.Changes.{by_number}
 use Rattle.qm_denot.proofs.OperandFacts.{EachOperand, operands_on, operands_append, proper_append}
+use Rattle.qm_runs.proofs.Following.IdealWires.{counted_on, CountsGrow}
+use Rattle.qm_runs.specs.Following.Follows.{IsCounted}
 
 -- every letter names counted wires alone
 abbrev pub NamesCounted : IdealTables → Circuit → Type 0

@@ -9,7 +9,8 @@ use Rattle.qm_proto.proofs.Changes.{with_at-here, with_at-elsewhere, with_at-kee
 use Rattle.qm_proto.proofs.Firsts.{one_run_unique}
 use Rattle.qm_runs.specs.Endings.IdealRuns.{OneRunLaw}
 use Rattle.qm_runs.proofs.Endings.Lowest.{lowest_or_none}
-use Rattle.qm_runs.proofs.Tables.Sums.{sum_below, sum_below-none, sum_below-lt, sum_below-one_more}
+use Rattle.qm_runs.proofs.Tables.Sums.{sum_below-none, sum_below-lt, sum_below-one_more}
+use Rattle.qm_runs.specs.Tables.Totals.{sum_below}
 
 -- ---- acts move no rank
 at_kept : (r k : ℕ) (t : IdealTables) (a : IdealAct) → ((ideal_done r t a).parts k).at ≡ (t.parts k).at

@@ -1,6 +1,6 @@
 -- The lowest number at which a test holds
 use Rattle.std.proofs.Common.{◌≡◌, ℕ, zero, suc, ◌<◌, ◌⊎◌, Bool, true, false, inl, inr, sym, subst, refl, arith}
-use Rattle.qm_runs.proofs.Tables.Sums.{same_or_below}
+use Rattle.qm_proto.proofs.Meetings.{same_or_below}
 
 -- the test holds at no number below n
 abbrev pub NoneBelow : (ℕ → Bool) → ℕ → Type 0

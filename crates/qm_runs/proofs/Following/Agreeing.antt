@@ -29,9 +29,9 @@ use Rattle.qm_runs.proofs.Tables.NextEvents.{IsNext, event_done, part_elsewhere}
 use Rattle.qm_runs.proofs.Following.Rewritings.{IsFree}
 use Rattle.qm_runs.proofs.Following.Places.{IsIn, goes_on, fresh_stage, other_wires}
 use Rattle.qm_runs.proofs.Following.Stood.{IsStood}
-use Rattle.qm_runs.proofs.Following.Lending.{no_front}
 use Rattle.qm_runs.proofs.Following.Safe.{step_in, operand_at, slot_in}
 use Rattle.qm_runs.proofs.Following.Frames.{offered_same}
+use Rattle.qm_runs.proofs.Following.UndoLinks.{no_front}
 
 -- ---- letters that name neither of two wires
 apart_two : (v w : Wire) (ws : List Wire) → ((x : Wire) → IsAmong ws x → (v ≢ x) × (w ≢ x)) → Apart ws (v ∷ w ∷ [])

@@ -26,7 +26,7 @@ use Rattle.qm_runs.proofs.Following.Lending.{lends_none}
 use Rattle.qm_runs.proofs.Following.Frames.{not_none, debt_begun, owes_bits}
 use Rattle.qm_runs.proofs.Following.Raws.{Raw, no_raw, rank_raw, holder_raw, rank_raw_same, parcel_raw_same, due_letters}
 use Rattle.qm_runs.proofs.Following.Deeds.{own_entry, IsHeldFrom, IsHeldBy, GoesOn}
-use Rattle.qm_runs.proofs.Following.RawSteps.{holder_from, holder_to, RawChange}
+use Rattle.qm_runs.proofs.Following.RawChanges.{holder_from, holder_to, RawChange}
 use Rattle.qm_runs.proofs.Following.Engaged.{IsEngaged}
 use Rattle.qm_runs.proofs.Following.RawWires.{raw_letters, nothing_begun, raw_engaged}
 use Rattle.qm_runs.proofs.Following.BegunAfter.{begun_after, pending_after, begun_own, begun_other, pending_own, pending_other}

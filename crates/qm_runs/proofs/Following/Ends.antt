@@ -13,8 +13,8 @@ use Rattle.qm_proto.specs.Model.Schedules.{AllEnded}
 use Rattle.qm_runs.specs.Tables.Lines.{row_at, acts_of}
 use Rattle.qm_runs.proofs.Tables.Lines.{rows_count}
 use Rattle.qm_runs.proofs.Tables.NextEvents.{IsNext, part_elsewhere}
-use Rattle.qm_runs.proofs.Tables.FarSteps.{by_number}
 use Rattle.qm_runs.proofs.Following.Places.{after, goes_on, fresh_stage}
+use Rattle.qm_proto.proofs.Changes.{by_number}
 
 -- so many events are fewer than the instruction has, or there is no instruction and none is done
 abbrev WithinBy : Option Instr → ℕ → Type 0

@@ -9,7 +9,7 @@ use Rattle.qm_denot.specs.Protocols.{letter_if}
 use Rattle.qm_denot.specs.Weights.{operands}
 use Rattle.qm_denot.specs.Tags.{Tagged}
 use Rattle.qm_denot.proofs.EqualUpTo.{equal_refl}
-use Rattle.qm_denot.proofs.Inverses.{IsUnitary, AllUnitary}
+use Rattle.qm_denot.proofs.Inverses.{IsUnitary}
 use Rattle.qm_denot.proofs.Weights.{IsNonzero-append_unitary}
 use Rattle.qm_denot.proofs.Partings.{AreNaming, IsAmong, IsNamedBy}
 use Rattle.qm_instr.specs.declared.OneGate.{OneGate}
@@ -48,6 +48,7 @@ use Rattle.qm_runs.proofs.Following.Frames.{fresh_debt, debt_ended, LanesKept, s
 use Rattle.qm_runs.proofs.Following.Agreeing.{is_test, agree_kept, own_agree}
 use Rattle.qm_runs.proofs.Following.Raws.{event_at}
 use Rattle.qm_runs.proofs.Following.Deeds.{GoesOn, given_at, taken_at, ideal_after, ideal_letters, ideal_grows, Brings, follow_own}
+use Rattle.qm_runs.proofs.Following.SafeDebts.{unitary_if}
 
 -- ---- the wires that letters name
 pub one_wire : (w v : Wire) → IsAmong (w ∷ []) v → w ≡ v
@@ -291,14 +292,10 @@ module _ (p : Programs) (ready : IsReady p) (ranges : IsInRange p) (t : Tables) 
       let follows : GoesOn p t r u NoMessage None None (n + 0) (g ++ ls) (c ++ ls) =
       local_follows i 0 next n g c ds before grow refl ls refl refl (same_lanes_kept p t u (ap (λ (x : Tables). x.lanes) (letters_tables r 1 set l t)))
       (λ x h. gate_free gt (fresh_slots i here refl) slots x (if_named set l x h)) (counted_if (tables_seen p u) set l (gate_counted gt slots (tables_seen p (after p t r i 0)) grow))
-      (IsNonzero-append_unitary c ls (unitary_so set l (gate_unitary gt slots)) before.nonzero) in
+      (IsNonzero-append_unitary c ls (unitary_if set l (gate_unitary gt slots)) before.nonzero) in
       subst (λ m. GoesOn p t r u NoMessage None None (n + m) (g ++ all_letters r (list_of (few_if set (letter l))) t) (c ++ ls)) (sym (letters_none_used set l))
       (subst (λ xs. GoesOn p t r u NoMessage None None (n + 0) (g ++ xs) (c ++ ls)) (sym (letters_so r t set l)) follows)
     where
-      unitary_so : (b : Bool) (l : Letter) → IsUnitary l → AllUnitary (letter_if b l)
-      unitary_so true l h = (h, tt)
-      unitary_so false l h = tt
-
       counted_if : (x : IdealTables) (b : Bool) (l : Letter) → AllCounted x (operands l) → NamesCounted x (letter_if b l)
       counted_if x true l h = (h, tt)
       counted_if x false l h = tt

@@ -1,5 +1,5 @@
 -- Every event of every instruction keeps the invariant
-use Rattle.std.proofs.Common.{◌≡◌, ℕ, zero, suc, true, false}
+use Rattle.std.proofs.Common.{ℕ, zero, suc}
 use Rattle.qm_instr.specs.declared.Instr.{Instr}
 use Rattle.qm_instr.specs.declared.Instr.TheVariants as instr
 use Rattle.qm_instr.specs.Programs.{Programs, IsInRange}
@@ -13,9 +13,7 @@ use Rattle.qm_runs.proofs.Following.Events.{Keeps, alloc_follows, set_follows, x
 use Rattle.qm_runs.proofs.Following.Sends.{copy_pair_follows, move_pair_follows, reach_pair_follows, copy_cross_follows, move_cross_follows, reach_cross_follows, move_had_follows, move_near_follows, copy_post_follows, move_post_follows, reach_post_follows}
 use Rattle.qm_runs.proofs.Following.Receives.{copy_deliver_follows, move_deliver_follows, reach_deliver_follows, undo_deliver_follows, answer_follows, copy_fix_follows, move_sign_follows, undo_fix_follows, answer_fix_follows, move_flip_follows, reach_flip_follows, reach_target_follows, reach_had_follows}
 use Rattle.qm_runs.proofs.Following.Givings.{test_follows, give_follows, reach_give_follows}
-
-never : {A : Type 0} → false ≡ true → A
-never e = cc
+use Rattle.qm_runs.proofs.Tables.Lines.{never}
 
 module _ (p : Programs) (ready : IsReady p) (ranges : IsInRange p) (t : Tables) (r : ℕ) (stood : IsStood p t) (ideal : AreCounted (tables_seen p t)) where
   pub keeps : (i : Instr) (s : ℕ) → IsNext p t r i s → Keeps p t r i s

@@ -1,5 +1,5 @@
 -- The events that look at or lend another rank's wire keep the invariant: the test and the Post of an undo, and the Post of a reach
-use Rattle.std.proofs.Common.{◌≡◌, ◌≢◌, ℕ, zero, suc, ◌+◌, ◌-◌, ◌<◌, nat_eq, nat_lt, Bool, true, false, ◌&&◌, ◌⊎◌, inl, inr, List, [], ◌∷◌, ◌++◌, length, Option, Some, None, is_some, Contains, cond, refl, sym, ap, ap₂, subst, ◌∙◌, append-nil, append_assoc, arith, ⊎_elim}
+use Rattle.std.proofs.Common.{◌≡◌, ◌≢◌, ℕ, zero, suc, ◌+◌, ◌-◌, nat_eq, nat_lt, Bool, true, false, ◌&&◌, ◌⊎◌, inl, inr, List, [], ◌∷◌, ◌++◌, length, Option, Some, None, is_some, Contains, cond, refl, sym, ap, ap₂, subst, ◌∙◌, append-nil, append_assoc, arith, ⊎_elim}
 use Rattle.std.proofs.lemmas.Bool.{cases_eq, and_parts, eqb-true}
 use Rattle.std.proofs.lemmas.Option.{same_Some}
 use Rattle.qm_zomega.specs.Numbers.{zero_number}
@@ -53,6 +53,8 @@ use Rattle.qm_runs.proofs.Following.Frames.{rank_debt_at, fresh_debt, debt_on, d
 use Rattle.qm_runs.proofs.Following.Agreeing.{IsGiving, giving, source_wire_at, agree_kept, own_agree}
 use Rattle.qm_runs.proofs.Following.Deeds.{GoesOn, ideal_grows, Brings, follow_own, follow_give}
 use Rattle.qm_runs.proofs.Following.Events.{Keeps, one_free, two_free, one_wire, one_named, own_free, slot_off, slot_free, uncounted, step_brings, not_back_none, not_back_pair}
+use Rattle.qm_runs.proofs.Following.Lending.{some_there}
+use Rattle.qm_runs.proofs.Following.SafeDebts.{no_debt}
 
 pub same_rank : (a b c e : ℕ) → InSlot a b ≡ InSlot c e → a ≡ c
 same_rank a b c e h = cc
@@ -62,9 +64,6 @@ pair_not_back a k d e = let n : ⊥ = cc in n
 
 back_parts : (a d : ℕ) → BackTo a ≡ BackTo d → a ≡ d
 back_parts a d e = cc
-
-no_debt : {A : Type 0} (d : Debt) → None ≡ Some d → A
-no_debt d e = cc
 
 -- the wire that the ideal machine is offered
 pub offered_seen : (p : Programs) (t : Tables) (d : ℕ) (j : Instr) (k : ℕ) → IsIn p t d j k → is_decided (Some j) k ≡ false → ideal_offered p (tables_seen p t) d ≡ source_wire p t d
@@ -151,9 +150,6 @@ module _ (p : Programs) (ready : IsReady p) (ranges : IsInRange p) (t : Tables) 
 
         tags : (a b c x y z : ℕ) → instr.UndoFrom a b c ≡ instr.UndoFrom x y z → c ≡ z
         tags a b c x y z e = cc
-
-    some_there : (xs : List Parcel) (x : Parcel) → Contains xs x → 0 < length xs
-    some_there xs x (k, below, is) = omega arith
 
     nobody : (h : Holder) (e : Debt) → h ≢ Rank r → Owes p t h e → e.message ≢ BackTo d
     nobody (Rank j) e ne owes m =

@@ -1,5 +1,5 @@
 -- A rank that lends its wire to a debt has no event, but for the one that takes this very debt
-use Rattle.std.proofs.Common.{◌≡◌, ◌≢◌, ℕ, ◌<◌, ◌≤◌, nat_lt, true, List, [], ◌∷◌, length, drop, Option, Some, None, is_some, slice_index_or, Contains, refl, sym, ap, ap₂, subst, ◌∙◌, arith}
+use Rattle.std.proofs.Common.{◌≡◌, ◌≢◌, ℕ, ◌<◌, ◌≤◌, nat_lt, true, List, [], ◌∷◌, length, drop, Option, Some, None, is_some, Contains, refl, sym, ap, ap₂, subst, ◌∙◌, arith}
 use Rattle.std.proofs.lemmas.Option.{same_Some}
 use Rattle.qm_instr.specs.declared.Instr.{Instr}
 use Rattle.qm_instr.specs.declared.Instr.TheVariants as instr
@@ -12,7 +12,7 @@ use Rattle.qm_instr.specs.Programs.{Programs, IsInRange}
 use Rattle.qm_check.specs.Checks.{IsReady}
 use Rattle.qm_check.proofs.Faultless.{step_of}
 use Rattle.qm_denot.specs.declared.Parcel.{Parcel}
-use Rattle.qm_proto.specs.Model.State.{Tables, no_parcel}
+use Rattle.qm_proto.specs.Model.State.{Tables}
 use Rattle.qm_proto.specs.Model.Rows.{current}
 use Rattle.qm_proto.specs.Model.Runs.{row_holds}
 use Rattle.qm_proto.proofs.Changes.{with_lane-here}
@@ -21,6 +21,7 @@ use Rattle.qm_runs.specs.Following.Debts.{Holder, Rank, OnLane}
 use Rattle.qm_runs.proofs.Tables.NextEvents.{IsNext, event_done}
 use Rattle.qm_runs.proofs.Following.Places.{IsIn}
 use Rattle.qm_runs.proofs.Following.Stood.{IsStood, Waits, known_rank, half_on_way, half_taken, answer_on_way}
+use Rattle.qm_runs.proofs.Following.UndoLinks.{no_front}
 
 -- the rank whose slot a rank's debt names
 abbrev pub lender_of : Option Instr → Option ℕ
@@ -46,9 +47,6 @@ IsThere t (OnLane a x) = Contains (t.lanes a) x × (is_some x.bits ≡ true)
 nothing_in : (xs : List Parcel) (x : Parcel) → xs ≡ [] → Contains xs x → ⊥
 nothing_in xs x none (k, below, is) = let z : length xs ≡ 0 = ap (λ (ys : List Parcel). length ys) none in omega arith
 
-pub no_front : (xs : List Parcel) → xs ≡ [] → is_some (slice_index_or xs 0 no_parcel).bits ≡ true → ⊥
-no_front xs e h = let z : is_some no_parcel.bits ≡ true = subst (λ ys. is_some (slice_index_or ys 0 no_parcel).bits ≡ true) e h in cc
-
 dropped_empty : (xs : List Parcel) → length xs ≤ 1 → drop 1 xs ≡ []
 dropped_empty [] h = refl
 dropped_empty (x ∷ xs) h = by_rest xs (omega arith)
@@ -56,6 +54,9 @@ dropped_empty (x ∷ xs) h = by_rest xs (omega arith)
     by_rest : (ys : List Parcel) → length ys ≡ 0 → ys ≡ []
     by_rest [] e = refl
     by_rest (y ∷ ys) e = absurd (omega arith)
+
+pub some_there : (xs : List Parcel) (x : Parcel) → Contains xs x → 0 < length xs
+some_there xs x (k, below, is) = omega arith
 
 module _ (p : Programs) (ready : IsReady p) (ranges : IsInRange p) (t : Tables) (r : ℕ) (stood : IsStood p t) (i : Instr) (s : ℕ) (next : IsNext p t r i s) where
   -- a rank that waits for an answer which is not there has no event
@@ -90,9 +91,6 @@ module _ (p : Programs) (ready : IsReady p) (ranges : IsInRange p) (t : Tables) 
   lent_to j (Some (instr.ReachFrom q from tag)) read e = (q, tag, read ∙ ap (λ f. Some (instr.ReachFrom q f tag)) (same_Some from r e))
   lent_to j (Some _) read e = absurd (let n : ⊥ = cc in n)
   lent_to j None read e = absurd (let n : ⊥ = cc in n)
-
-  some_there : (xs : List Parcel) (x : Parcel) → Contains xs x → 0 < length xs
-  some_there xs x (k, below, is) = omega arith
 
   apart_lane : (c : Lane) (x : Parcel) → Contains (t.lanes c) x → c.from ≢ c.to
   apart_lane c x there self = nothing_in (t.lanes c) x (stood.selfless c self) there

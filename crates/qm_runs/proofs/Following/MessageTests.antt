@@ -1,27 +1,21 @@
 -- The test of messages
-use Rattle.std.proofs.Common.{◌≡◌, ◌≢◌, ℕ, nat_eq, Bool, true, false, ◌⊎◌, inl, inr, refl, sym, ap, ap₂, subst}
-use Rattle.std.proofs.lemmas.Bool.{and_parts}
-use Rattle.std.proofs.lemmas.Bool.Decides.{eqb_tells}
+use Rattle.std.proofs.Common.{◌≡◌, ◌≢◌, nat_eq, Bool, true, false, ◌⊎◌, inl, inr, refl, sym, ap, ap₂, subst}
+use Rattle.std.proofs.lemmas.Bool.{and_parts, eqb-true}
 use Rattle.qm_runs.specs.Following.Debts.{Message, ByPair, BackTo, NoMessage, is_message}
-
-number : (a b : ℕ) → nat_eq a b ≡ true → a ≡ b
-number a b e = elim (eqb_tells a b) [ inl h ↦ h.1 | inr h ↦ absurd (cc) ]
-
-itself : (a : ℕ) → nat_eq a a ≡ true
-itself a = elim (eqb_tells a a) [ inl h ↦ h.0 | inr h ↦ absurd (h.1 refl) ]
+use Rattle.qm_proto.proofs.Changes.{number_itself}
 
 pub message_tells : (j k : Message) → is_message j k ≡ true → j ≡ k
 unfolding is_message
 message_tells (ByPair a k) (ByPair b j) e =
-    let parts = and_parts (nat_eq a b) (nat_eq k j) e in ap₂ ByPair (number a b parts.0) (number k j parts.1)
-message_tells (BackTo a) (BackTo b) e = ap BackTo (number a b e)
+    let parts = and_parts (nat_eq a b) (nat_eq k j) e in ap₂ ByPair (eqb-true a b parts.0) (eqb-true k j parts.1)
+message_tells (BackTo a) (BackTo b) e = ap BackTo (eqb-true a b e)
 message_tells NoMessage NoMessage e = refl
 message_tells _ _ e = cc
 
 pub message_itself : (k : Message) → is_message k k ≡ true
 unfolding is_message
-message_itself (ByPair a k) = rw (itself a, itself k) refl
-message_itself (BackTo a) = itself a
+message_itself (ByPair a k) = rw (number_itself a, number_itself k) refl
+message_itself (BackTo a) = number_itself a
 message_itself NoMessage = refl
 
 pub same_or_not : (j k : Message) → (j ≡ k) ⊎ (j ≢ k)

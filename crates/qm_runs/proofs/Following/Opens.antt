@@ -16,14 +16,13 @@ use Rattle.qm_proto.specs.Model.State.{Part, Tables, with_lane, no_parcel}
 use Rattle.qm_proto.specs.Model.Acts.{list_of}
 use Rattle.qm_proto.specs.Model.Rows.{current, instr_at, half, letter, few_if}
 use Rattle.qm_proto.specs.Model.Runs.{holds}
-use Rattle.qm_proto.proofs.Changes.{with_lane-here, with_lane-elsewhere, by_lane}
+use Rattle.qm_proto.proofs.Changes.{with_lane-here, with_lane-elsewhere, by_lane, by_number}
 use Rattle.qm_runs.specs.Tables.Lines.{row_at, acts_of}
 use Rattle.qm_runs.specs.Following.Seen.{has_pair}
 use Rattle.qm_runs.specs.Following.Debts.{far_counted}
 use Rattle.qm_runs.specs.Tables.Well.{middle_of, middle_at, is_open, sent_at}
 use Rattle.qm_runs.proofs.Tables.NextEvents.{IsNext, event_done, part_elsewhere}
 use Rattle.qm_runs.proofs.Tables.LaneShapes.{LaneCase, Still, Puts, Tells, Takes, lanes_by, IsLaneCase}
-use Rattle.qm_runs.proofs.Tables.FarSteps.{by_number}
 use Rattle.qm_runs.proofs.Following.Places.{part_all, own_on, goes_on, fresh_stage, lanes_go}
 
 -- the last of a list

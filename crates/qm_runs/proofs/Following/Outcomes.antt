@@ -14,10 +14,11 @@ use Rattle.qm_runs.specs.Tables.Well.{middle_of, outcomes_in}
 use Rattle.qm_runs.specs.Tables.Lines.{row_at, acts_of}
 use Rattle.qm_runs.specs.Following.Deciding.{is_outcome, outcomes}
 use Rattle.qm_runs.proofs.Tables.NextEvents.{IsNext, part_elsewhere}
-use Rattle.qm_runs.proofs.Tables.Sums.{sum_below, sum_below-same, sum_below-one_more}
+use Rattle.qm_runs.proofs.Tables.Sums.{sum_below-same, sum_below-one_more}
 use Rattle.qm_runs.proofs.Following.Places.{after, before_event, part_one, part_all, own_on, own_ended, letters_none_used}
 use Rattle.qm_runs.proofs.Following.Stood.{IsStood}
 use Rattle.qm_runs.proofs.Following.Safe.{step_in, stands_in}
+use Rattle.qm_runs.specs.Tables.Totals.{sum_below}
 
 -- the outcomes left on all protocol tapes
 abbrev pub outcomes_left : Programs → Tables → ℕ

@@ -10,7 +10,7 @@ use Rattle.qm_denot.proofs.EqualUpTo.{equal_append, equal_trans}
 use Rattle.qm_denot.proofs.Inverses.{equal_flip_twice}
 use Rattle.qm_denot.proofs.ProtocolLaws.{equal_pair, equal_copy, equal_near, equal_move, equal_reach}
 use Rattle.qm_runs.specs.Following.Debts.{paired}
-use Rattle.qm_runs.proofs.Following.Safe.{moved_near, corrections_of}
+use Rattle.qm_runs.proofs.Following.SafeDebts.{moved_near, corrections_of}
 
 -- equal lists of letters after one circuit, and the same letters after both
 equal_more : (n : ℕ) (c xs ys ls : List Letter) → IsEqualUpTo n (c ++ xs) (c ++ ys) → IsEqualUpTo n (c ++ (xs ++ ls)) (c ++ (ys ++ ls))

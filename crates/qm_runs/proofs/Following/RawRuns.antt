@@ -24,7 +24,8 @@ use Rattle.qm_runs.proofs.Following.SeenSteps.{sees}
 use Rattle.qm_runs.proofs.Following.Stood.{IsStood}
 use Rattle.qm_runs.proofs.Following.Raws.{event_at, event_message_at, holder_raw}
 use Rattle.qm_runs.proofs.Following.Deeds.{GoesOn, given_at, taken_at, ideal_letters}
-use Rattle.qm_runs.proofs.Following.RawSteps.{holder_from, holder_to, RawChange, changes}
+use Rattle.qm_runs.proofs.Following.RawChanges.{holder_from, holder_to, RawChange}
+use Rattle.qm_runs.proofs.Following.RawSteps.{changes}
 use Rattle.qm_runs.proofs.Following.Follow.{keeps}
 use Rattle.qm_runs.proofs.Following.Beside.{RunsBeside, GoesBeside}
 use Rattle.qm_runs.proofs.Following.Engaged.{IsClear, one_engaged}

@@ -1,96 +1,48 @@
 -- What each event makes of the letters that its message has begun, and of the corrections due
-use Rattle.std.proofs.Common.{◌≡◌, ◌≢◌, ℕ, zero, suc, ◌+◌, ◌-◌, nat_lt, Bool, true, false, if◌then◌else◌, List, [], ◌∷◌, ◌++◌, drop, filter, Option, Some, None, refl, sym, ap, ap₂, subst, ◌∙◌, append_assoc, append-nil, arith}
+use Rattle.std.proofs.Common.{◌≡◌, ◌≢◌, ℕ, zero, suc, ◌+◌, ◌-◌, nat_lt, true, false, if◌then◌else◌, List, [], ◌∷◌, ◌++◌, drop, Some, refl, sym, ap, ap₂, subst, ◌∙◌, append_assoc, append-nil, arith}
 use Rattle.qm_denot.specs.declared.Wire.{Wire}
 use Rattle.qm_denot.specs.declared.Letter.{Letter}
 use Rattle.qm_denot.specs.declared.Letter.TheVariants.{Phase, Flip, Had, Cx, Pair, Take, Keep, Rename}
 use Rattle.qm_denot.specs.Circuits.{Circuit, amp, IsEqualUpTo}
 use Rattle.qm_denot.specs.Protocols.{Agree, letter_if}
-use Rattle.qm_denot.specs.Tags.{Tagged}
 use Rattle.qm_denot.proofs.EqualUpTo.{equal_refl}
 use Rattle.qm_denot.proofs.Inverses.{equal_flip_twice, equal_sign_twice}
 use Rattle.qm_denot.proofs.ProtocolLaws.{equal_uncopy}
 use Rattle.qm_instr.specs.declared.Instr.{Instr}
 use Rattle.qm_instr.specs.declared.Instr.TheVariants as instr
 use Rattle.qm_instr.specs.declared.Kind.TheVariants as kind
-use Rattle.qm_instr.specs.declared.Lane.{Lane}
 use Rattle.qm_instr.specs.Counts.{events_of}
 use Rattle.qm_instr.specs.Lanes.{lane}
 use Rattle.qm_instr.specs.Programs.{Programs, IsInRange}
 use Rattle.qm_check.specs.Checks.{IsReady}
-use Rattle.qm_proto.specs.declared.Event.{Event}
 use Rattle.qm_proto.specs.declared.Event.TheVariants as event
-use Rattle.qm_denot.specs.declared.Parcel.{Parcel}
 use Rattle.qm_proto.specs.Model.State.{Part, Tables, front, wire_in, near_made, far_made, wire_of, first_bit, second_bit, bit_of, own_next, protocol_next, with_at}
-use Rattle.qm_proto.specs.Model.Acts.{all_letters}
 use Rattle.qm_proto.specs.Model.Rows.{gate_letter, source_wire, wire_offered}
 use Rattle.qm_proto.specs.Model.Places.{InSlot, IsAt}
 use Rattle.qm_proto.proofs.Changes.{with_at-here}
 use Rattle.qm_runs.specs.Tables.Lines.{row_at, acts_of}
 use Rattle.qm_runs.specs.Following.Seen.{tables_seen, part_seen}
-use Rattle.qm_runs.specs.Following.Debts.{near_counted, far_counted, Holder, Rank, OnLane}
-use Rattle.qm_runs.specs.Following.Follows.{IsCounted, AgreeIn, Follows}
+use Rattle.qm_runs.specs.Following.Debts.{near_counted, far_counted}
+use Rattle.qm_runs.specs.Following.Follows.{IsCounted, AgreeIn}
 use Rattle.qm_runs.specs.Following.Simulation.{settles, is_early, outcomes_of, corrections, is_due_after}
 use Rattle.qm_runs.proofs.Tables.NextEvents.{IsNext}
 use Rattle.qm_runs.proofs.Following.IdealWires.{AreCounted, blank_where}
 use Rattle.qm_runs.proofs.Following.Places.{after, before_event, goes_on}
 use Rattle.qm_runs.proofs.Following.Places.{letters_tables}
 use Rattle.qm_runs.proofs.Following.Stood.{IsStood}
-use Rattle.qm_runs.proofs.Following.Safe.{step_in, operand_at, corrections_of, reached_waits, reached_half, target_at, lent_half, half_target}
+use Rattle.qm_runs.proofs.Following.SafeDebts.{corrections_of}
+use Rattle.qm_runs.proofs.Following.Safe.{step_in, operand_at, reached_waits, reached_half, target_at, lent_half, half_target}
 use Rattle.qm_runs.proofs.Following.Frames.{offered_same}
-use Rattle.qm_runs.proofs.Following.Raws.{Raw, raw, no_raw, twin_of, reached, rank_raw, holder_raw, raw_at, raw_on, raw_ended, fresh_raw, due_letters, early_law, take_law, local_law, all_due}
+use Rattle.qm_runs.proofs.Following.Raws.{Raw, raw, no_raw, twin_of, reached, rank_raw, raw_at, raw_on, raw_ended, fresh_raw, due_letters, early_law, take_law, local_law, all_due}
 use Rattle.qm_runs.proofs.Following.RawLaws.{copy_settled, move_settled, reach_settled}
-use Rattle.qm_runs.proofs.Following.Deeds.{ideal_letters, given_at, taken_at}
+use Rattle.qm_runs.proofs.Following.Deeds.{ideal_letters}
 use Rattle.qm_runs.proofs.Following.Events.{letters_so, halves_differ, near_uncounted, uncounted}
 use Rattle.qm_runs.proofs.Following.Sends.{we, wf, e_blank, f_blank, copying, moving}
 use Rattle.qm_runs.proofs.Following.Receives.{corrected_law}
 use Rattle.qm_runs.proofs.Following.Givings.{gives, two_wires, same_rank}
 use Rattle.qm_runs.proofs.Following.Givings.{offered_seen}
-
--- the holders between which an event moves its message
-abbrev pub holder_from : Tables → ℕ → Option Lane → Holder
-holder_from t r None = Rank r
-holder_from t r (Some a) = OnLane a (front t a)
-
-abbrev pub holder_to : ℕ → Option (Lane × Parcel) → Holder
-holder_to r None = Rank r
-holder_to r (Some y) = OnLane y.0 y.1
-
--- from these letters of the event's message to those
-pub record RawChange (p : Programs) (t : Tables) (r : ℕ) (i : Instr) (s : ℕ) (c : Circuit) (ls ms : List Letter) (b a : Raw) : Type 0 where
-  pub begun_so : a.begun ≡ (if settles (Some i) s then [] else (if is_early (Some i) s then b.begun ++ ls else b.begun))
-  pub pending_so : a.pending ≡ (if settles (Some i) s then b.pending ++ corrections p t r (Some i) else due_letters (row_at p t r i s) b.pending)
-  pub law : IsEqualUpTo (if settles (Some i) s then outcomes_of (Some i) else 0) (c ++ ((b.begun ++ b.pending) ++ ls)) (c ++ (ms ++ (a.begun ++ a.pending)))
-
--- what every event owes
-abbrev pub Changes : Programs → Tables → ℕ → Instr → ℕ → Type 0
-Changes p t r i s =
-    (n : ℕ) (g c : Circuit) (ds : Tagged _) → Follows p t n g c ds
-    → RawChange p t r i s c (all_letters r (acts_of (row_at p t r i s)) t) (ideal_letters p t r i s)
-    (holder_raw p t (holder_from t r (taken_at r i s))) (holder_raw p (after p t r i s) (holder_to r (given_at t r i s)))
-
--- corrections done and not done
-flip_done : (b : Bool) (f : Wire) → [] ≡ filter (is_due_after event.FixX) (letter_if b (Flip f))
-flip_done true f = refl
-flip_done false f = refl
-
-sign_done : (b : Bool) (f : Wire) → [] ≡ filter (is_due_after event.FixZ) (letter_if b (Phase 4 f))
-sign_done true f = refl
-sign_done false f = refl
-
-flip_first : (a b : Bool) (f : Wire) → letter_if a (Phase 4 f) ≡ filter (is_due_after event.FixX) (letter_if a (Phase 4 f) ++ letter_if b (Flip f))
-flip_first true true f = refl
-flip_first true false f = refl
-flip_first false true f = refl
-flip_first false false f = refl
-
-nothing_due : (e : Event) (zs : List Letter) → zs ≡ [] → [] ≡ filter (is_due_after e) zs
-nothing_due e zs none = sym (ap (filter (is_due_after e)) none)
-
-never_changes : {A : Type 0} → false ≡ true → A
-never_changes e = cc
-
-twice_law : (c ls : List Letter) → IsEqualUpTo 0 (c ++ (ls ++ ls)) c → IsEqualUpTo 0 (c ++ (ls ++ ls)) (c ++ [])
-twice_law c ls h = subst (IsEqualUpTo 0 (c ++ (ls ++ ls))) (sym (append-nil c)) h
+use Rattle.qm_runs.proofs.Following.RawChanges.{RawChange, Changes, flip_done, sign_done, flip_first, nothing_due, twice_law}
+use Rattle.qm_runs.proofs.Tables.Lines.{never}
 
 module _ (p : Programs) (ready : IsReady p) (ranges : IsInRange p) (t : Tables) (r : ℕ) (stood : IsStood p t) (ideal : AreCounted (tables_seen p t)) where
   changed : {i : Instr} {s : ℕ} {c : Circuit} {ls ms : List Letter} {b a : Raw} (x y : Raw) → x ≡ b → y ≡ a → RawChange p t r i s c ls ms b a → RawChange p t r i s c ls ms x y
@@ -456,38 +408,38 @@ module _ (p : Programs) (ready : IsReady p) (ranges : IsInRange p) (t : Tables) 
   changes (instr.CopyTo q to tag) zero next = copy_pair q to tag next
   changes (instr.CopyTo q to tag) (suc zero) next = copy_cross q to tag next
   changes (instr.CopyTo q to tag) (suc (suc zero)) next = copy_post q to tag next
-  changes (instr.CopyTo q to tag) (suc (suc (suc s))) next = never_changes next.holds
+  changes (instr.CopyTo q to tag) (suc (suc (suc s))) next = never next.holds
   changes (instr.CopyFrom q from tag) zero next = copy_take q from tag next
   changes (instr.CopyFrom q from tag) (suc zero) next = copy_fix q from tag next
-  changes (instr.CopyFrom q from tag) (suc (suc s)) next = never_changes next.holds
+  changes (instr.CopyFrom q from tag) (suc (suc s)) next = never next.holds
   changes (instr.UndoTo q to tag) zero next = undo_test q to tag next
   changes (instr.UndoTo q to tag) (suc zero) next = undo_give q to tag next
-  changes (instr.UndoTo q to tag) (suc (suc s)) next = never_changes next.holds
+  changes (instr.UndoTo q to tag) (suc (suc s)) next = never next.holds
   changes (instr.UndoFrom q from tag) zero next = undo_take q from tag next
   changes (instr.UndoFrom q from tag) (suc zero) next = undo_fix q from tag next
-  changes (instr.UndoFrom q from tag) (suc (suc s)) next = never_changes next.holds
+  changes (instr.UndoFrom q from tag) (suc (suc s)) next = never next.holds
   changes (instr.MoveTo q to tag) zero next = move_pair q to tag next
   changes (instr.MoveTo q to tag) (suc zero) next = move_cross q to tag next
   changes (instr.MoveTo q to tag) (suc (suc zero)) next = move_had q to tag next
   changes (instr.MoveTo q to tag) (suc (suc (suc zero))) next = move_near q to tag next
   changes (instr.MoveTo q to tag) (suc (suc (suc (suc zero)))) next = move_post q to tag next
-  changes (instr.MoveTo q to tag) (suc (suc (suc (suc (suc s))))) next = never_changes next.holds
+  changes (instr.MoveTo q to tag) (suc (suc (suc (suc (suc s))))) next = never next.holds
   changes (instr.MoveFrom q from tag) zero next = move_take q from tag next
   changes (instr.MoveFrom q from tag) (suc zero) next = move_flip q from tag next
   changes (instr.MoveFrom q from tag) (suc (suc zero)) next = move_sign q from tag next
-  changes (instr.MoveFrom q from tag) (suc (suc (suc s))) next = never_changes next.holds
+  changes (instr.MoveFrom q from tag) (suc (suc (suc s))) next = never next.holds
   changes (instr.ReachTo q to tag) zero next = reach_pair q to tag next
   changes (instr.ReachTo q to tag) (suc zero) next = reach_cross q to tag next
   changes (instr.ReachTo q to tag) (suc (suc zero)) next = reach_post q to tag next
   changes (instr.ReachTo q to tag) (suc (suc (suc zero))) next = answer_take q to tag next
   changes (instr.ReachTo q to tag) (suc (suc (suc (suc zero)))) next = answer_fix q to tag next
-  changes (instr.ReachTo q to tag) (suc (suc (suc (suc (suc s))))) next = never_changes next.holds
+  changes (instr.ReachTo q to tag) (suc (suc (suc (suc (suc s))))) next = never next.holds
   changes (instr.ReachFrom q from tag) zero next = reach_take q from tag next
   changes (instr.ReachFrom q from tag) (suc zero) next = reach_flip q from tag next
   changes (instr.ReachFrom q from tag) (suc (suc zero)) next = reach_target q from tag next
   changes (instr.ReachFrom q from tag) (suc (suc (suc zero))) next = reach_had q from tag next
   changes (instr.ReachFrom q from tag) (suc (suc (suc (suc zero)))) next = reach_give q from tag next
-  changes (instr.ReachFrom q from tag) (suc (suc (suc (suc (suc s))))) next = never_changes next.holds
+  changes (instr.ReachFrom q from tag) (suc (suc (suc (suc (suc s))))) next = never next.holds
   changes (instr.Do gt) zero next = λ n g c ds before. local_change (instr.Do gt) next (gate_letter (wire_in t r) gt ∷ []) refl refl refl (λ zs e. nothing_due event.Gate zs e) c
   changes (instr.Free q) zero next = λ n g c ds before. local_change (instr.Free q) next (Take (wire_in t r q) false ∷ []) refl refl refl (λ zs e. nothing_due event.Free zs e) c
   changes (instr.Measure q b) zero next = λ n g c ds before. local_change (instr.Measure q b) next (Keep (wire_in t r q) (own_next t r) ∷ []) refl refl refl (λ zs e. nothing_due event.Measure zs e) c
@@ -499,4 +451,4 @@ module _ (p : Programs) (ready : IsReady p) (ranges : IsInRange p) (t : Tables) 
       let l = gate_letter (wire_in t r) gt in
       subst (λ zs. RawChange p t r (instr.When b gt) 0 c zs (letter_if (bit_of t r b) l) (rank_raw p t r) (rank_raw p (after p t r (instr.When b gt) 0) r)) (sym (letters_so r t (bit_of t r b) l))
       (local_change (instr.When b gt) next (letter_if (bit_of t r b) l) refl refl refl (λ zs e. nothing_due event.When zs e) c)
-  changes _ (suc s) next = never_changes next.holds
+  changes _ (suc s) next = never next.holds

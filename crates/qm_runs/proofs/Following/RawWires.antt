@@ -18,7 +18,8 @@ use Rattle.qm_proto.specs.Model.State.{Part, Tables, wire_in, wire_of, first_bit
 use Rattle.qm_proto.specs.Model.Rows.{current, source_wire}
 use Rattle.qm_runs.specs.Following.Debts.{ByPair, BackTo, pair_of, Debt, debt, near_counted, far_counted, paired, crossed, debt_in, rank_debt, parcel_letters, Holder, Rank, OnLane, Owes}
 use Rattle.qm_runs.proofs.Following.Stood.{IsStood}
-use Rattle.qm_runs.proofs.Following.Safe.{EachNamed, each_naming, each_append, each_if, custody}
+use Rattle.qm_runs.proofs.Following.SafeDebts.{EachNamed, each_naming, each_append, each_if}
+use Rattle.qm_runs.proofs.Following.Safe.{custody}
 use Rattle.qm_runs.proofs.Following.Raws.{Raw, no_raw, twin_of, raw_in, rank_raw, kind_raw, holder_raw}
 use Rattle.qm_runs.proofs.Following.Engaged.{IsEngaged}
 

@@ -33,7 +33,8 @@ use Rattle.qm_runs.proofs.Tables.NextEvents.{IsNext, event_done}
 use Rattle.qm_runs.proofs.Following.IdealWires.{AreCounted, CountsGrow}
 use Rattle.qm_runs.proofs.Following.Places.{before_event, after, letters_tables, letters_none_used}
 use Rattle.qm_runs.proofs.Following.Stood.{IsStood, answer_on_way}
-use Rattle.qm_runs.proofs.Following.Safe.{step_in, operand_at, settled_at, engaged_so, slot_in, corrections_of, half_in, target_in}
+use Rattle.qm_runs.proofs.Following.SafeDebts.{corrections_of}
+use Rattle.qm_runs.proofs.Following.Safe.{step_in, operand_at, settled_at, engaged_so, slot_in, half_in, target_in}
 use Rattle.qm_runs.proofs.Following.Frames.{rank_debt_at, fresh_debt, debt_on, debt_ended, same_lanes_kept, front_once, none_left, offered_same}
 use Rattle.qm_runs.proofs.Following.Agreeing.{is_test}
 use Rattle.qm_runs.proofs.Following.Deeds.{GoesOn, ideal_grows, follow_middle, follow_take}

@@ -1,5 +1,5 @@
 -- Every debt is safe: its wires are in its message's custody, and its letters are unitary
-use Rattle.std.proofs.Common.{◌≡◌, ◌≢◌, ℕ, zero, suc, ◌+◌, ◌-◌, ◌<◌, nat_lt, Bool, true, false, cond, inl, inr, List, [], ◌∷◌, ◌++◌, length, take, Option, Some, None, is_some, Contains, refl, sym, ap, subst, ◌∙◌, arith}
+use Rattle.std.proofs.Common.{◌≡◌, ◌≢◌, ℕ, zero, suc, ◌+◌, ◌-◌, ◌<◌, nat_lt, Bool, true, false, cond, List, [], ◌∷◌, ◌++◌, length, take, Option, Some, None, is_some, Contains, refl, sym, ap, subst, ◌∙◌, arith}
 use Rattle.std.proofs.lemmas.Bool.{and_right}
 use Rattle.std.proofs.lemmas.List.Elements.{Contains-push, All-contains}
 use Rattle.std.proofs.lemmas.Option.{same_Some, slice_get_read}
@@ -10,7 +10,6 @@ use Rattle.qm_denot.specs.Wires.{has, no_wires}
 use Rattle.qm_denot.specs.Protocols.{letter_if}
 use Rattle.qm_denot.specs.Weights.{operands}
 use Rattle.qm_denot.proofs.Inverses.{IsUnitary, AllUnitary}
-use Rattle.qm_denot.proofs.Partings.{AreNaming, IsAmong}
 use Rattle.qm_instr.specs.declared.Instr.{Instr}
 use Rattle.qm_instr.specs.declared.Instr.TheVariants as instr
 use Rattle.qm_instr.specs.declared.Kind.{Kind}
@@ -35,71 +34,8 @@ use Rattle.qm_runs.proofs.Following.Rewritings.{AllInCustody}
 use Rattle.qm_runs.proofs.Following.Places.{IsIn}
 use Rattle.qm_runs.proofs.Following.Opens.{IsLast}
 use Rattle.qm_runs.proofs.Following.Stood.{IsStood, known_rank, half_taken, half_on_way, answer_on_way, Waits}
-
--- ---- letters by their wires
--- P of each wire of a list, and of each wire that letters name
-abbrev pub EachOf : (Wire → Type 0) → List Wire → Type 0
-EachOf P [] = Unit {0}
-EachOf P (w ∷ ws) = P w × EachOf P ws
-
-abbrev pub EachNamed : (Wire → Type 0) → List Letter → Type 0
-EachNamed P [] = Unit {0}
-EachNamed P (l ∷ ls) = EachOf P (operands l) × EachNamed P ls
-
-each_among : (P : Wire → Type 0) (ws : List Wire) (w : Wire) → EachOf P ws → IsAmong ws w → P w
-each_among P [] w all h = absurd h
-each_among P (v ∷ vs) w all (inl e) = subst P e all.0
-each_among P (v ∷ vs) w all (inr h) = each_among P vs w all.1 h
-
-pub each_naming : (P : Wire → Type 0) (ls : List Letter) (w : Wire) → EachNamed P ls → AreNaming ls w → P w
-each_naming P [] w all h = absurd h
-each_naming P (l ∷ ls) w all (inl h) = each_among P (operands l) w all.0 h
-each_naming P (l ∷ ls) w all (inr h) = each_naming P ls w all.1 h
-
-pub each_append : (P : Wire → Type 0) (ls ms : List Letter) → EachNamed P ls → EachNamed P ms → EachNamed P (ls ++ ms)
-each_append P [] ms a b = b
-each_append P (l ∷ ls) ms a b = (a.0, each_append P ls ms a.1 b)
-
-pub each_if : (P : Wire → Type 0) (b : Bool) (l : Letter) → EachOf P (operands l) → EachNamed P (letter_if b l)
-each_if P true l h = (h, tt)
-each_if P false l h = tt
-
-pub unitary_append : (ls ms : List Letter) → AllUnitary ls → AllUnitary ms → AllUnitary (ls ++ ms)
-unitary_append [] ms a b = b
-unitary_append (l ∷ ls) ms a b = (a.0, unitary_append ls ms a.1 b)
-
-pub unitary_if : (b : Bool) (l : Letter) → IsUnitary l → AllUnitary (letter_if b l)
-unitary_if true l h = (h, tt)
-unitary_if false l h = tt
-
--- ---- what a debt must be
-pub record IsSafe (p : Programs) (t : Tables) (d : Debt) : Type 0 where
-  pub named : EachNamed (λ w. IsInCustody p t w d.message) d.letters
-  pub unitary : AllUnitary d.letters
-  pub counted : (a k : ℕ) → d.message ≡ ByPair a k → k < (t.parts a).made
-  pub real : d.message ≢ NoMessage
-
--- what a move owes once its near half is measured away, and what a half is corrected by
-abbrev pub moved_near : Wire → Wire → Bool → List Letter
-moved_near w f first = Cx w f ∷ (letter_if first (Flip f) ++ Had w ∷ [])
-
-abbrev pub corrections_of : Bool → Bool → Wire → List Letter
-corrections_of sign flip f = letter_if sign (Phase 4 f) ++ letter_if flip (Flip f)
-
-far_not_near : (r to : ℕ) → FarOf to ≢ NearOf r
-far_not_near r to e = let n : ⊥ = cc in n
-
-slot_not_near : (r q k : ℕ) → InSlot r q ≢ NearOf k
-slot_not_near r q k e = let n : ⊥ = cc in n
-
-slot_not_far : (r q to : ℕ) → InSlot r q ≢ FarOf to
-slot_not_far r q to e = let n : ⊥ = cc in n
-
-back_not_pair : (d a k : ℕ) → BackTo d ≡ ByPair a k → ⊥
-back_not_pair d a k e = let n : ⊥ = cc in n
-
-pair_parts : (a k b j : ℕ) → ByPair a k ≡ ByPair b j → (a ≡ b) × (k ≡ j)
-pair_parts a k b j e = (cc, cc)
+use Rattle.qm_runs.proofs.Following.SafeDebts.{EachOf, each_naming, each_append, each_if, unitary_append, unitary_if, IsSafe, moved_near, corrections_of, far_not_near, slot_not_near, slot_not_far, back_not_pair, pair_parts, no_debt}
+use Rattle.qm_runs.proofs.Following.Lending.{some_there}
 
 module _ (p : Programs) (ready : IsReady p) (ranges : IsInRange p) (t : Tables) (stood : IsStood p t) where
   -- ---- a rank in the middle of an instruction, and its wires
@@ -370,26 +306,23 @@ module _ (p : Programs) (ready : IsReady p) (ranges : IsInRange p) (t : Tables) 
     }
 
   -- ---- the debts of ranks
-  none_owed : {A : Type 0} (d : Debt) → None ≡ Some d → A
-  none_owed d e = cc
-
   pub safe_rank : (r : ℕ) (i : Instr) (s : ℕ) → IsIn p t r i s → (d : Debt) → debt_in r (t.parts r) (wire_in t r) (source_wire p t) (Some i) s ≡ Some d → IsSafe p t d
-  safe_rank r (instr.CopyTo q to tag) zero here d e = none_owed d e
+  safe_rank r (instr.CopyTo q to tag) zero here d e = no_debt d e
   safe_rank r (instr.CopyTo q to tag) (suc zero) here d e =
       let i = instr.CopyTo q to tag in
       subst (IsSafe p t) (same_Some _ _ e) (paired_safe r i 1 q to here (lane r to kind.Copy tag) refl refl refl refl (operand_at r i 1 here q refl (step_in r i 1 here).slots) refl)
   safe_rank r (instr.CopyTo q to tag) (suc (suc zero)) here d e =
       let i = instr.CopyTo q to tag in
       subst (IsSafe p t) (same_Some _ _ e) (crossed_safe r i 2 q to here (lane r to kind.Copy tag) refl refl refl refl (operand_at r i 2 here q refl (step_in r i 2 here).slots) refl)
-  safe_rank r (instr.CopyTo q to tag) (suc (suc (suc s))) here d e = none_owed d e
-  safe_rank r (instr.CopyFrom q from tag) zero here d e = none_owed d e
+  safe_rank r (instr.CopyTo q to tag) (suc (suc (suc s))) here d e = no_debt d e
+  safe_rank r (instr.CopyFrom q from tag) zero here d e = no_debt d e
   safe_rank r (instr.CopyFrom q from tag) (suc zero) here d e =
       let i = instr.CopyFrom q from tag in
       let f = wire_of (t.parts r).taken in
       let at = settled_at r i 1 here q refl refl in
       subst (IsSafe p t) (same_Some _ _ e) (one_safe f (pair_of f) (first_bit (t.parts r).taken) (Flip f) refl tt (InSlot r q, at, engaged_so r i 1 here (pair_of f) refl refl) (placed_counted f (InSlot r q) at) (pair_real f))
-  safe_rank r (instr.CopyFrom q from tag) (suc (suc s)) here d e = none_owed d e
-  safe_rank r (instr.MoveTo q to tag) zero here d e = none_owed d e
+  safe_rank r (instr.CopyFrom q from tag) (suc (suc s)) here d e = no_debt d e
+  safe_rank r (instr.MoveTo q to tag) zero here d e = no_debt d e
   safe_rank r (instr.MoveTo q to tag) (suc zero) here d e =
       let i = instr.MoveTo q to tag in
       subst (IsSafe p t) (same_Some _ _ e) (paired_safe r i 1 q to here (lane r to kind.Move tag) refl refl refl refl (operand_at r i 1 here q refl (step_in r i 1 here).slots) refl)
@@ -402,8 +335,8 @@ module _ (p : Programs) (ready : IsReady p) (ranges : IsInRange p) (t : Tables) 
   safe_rank r (instr.MoveTo q to tag) (suc (suc (suc (suc zero)))) here d e =
       let i = instr.MoveTo q to tag in
       subst (IsSafe p t) (same_Some _ _ e) (moved_safe r i 4 q to here (lane r to kind.Move tag) refl refl refl refl (operand_at r i 4 here q refl (step_in r i 4 here).slots))
-  safe_rank r (instr.MoveTo q to tag) (suc (suc (suc (suc (suc s))))) here d e = none_owed d e
-  safe_rank r (instr.MoveFrom q from tag) zero here d e = none_owed d e
+  safe_rank r (instr.MoveTo q to tag) (suc (suc (suc (suc (suc s))))) here d e = no_debt d e
+  safe_rank r (instr.MoveFrom q from tag) zero here d e = no_debt d e
   safe_rank r (instr.MoveFrom q from tag) (suc zero) here d e =
       let i = instr.MoveFrom q from tag in
       let f = wire_of (t.parts r).taken in
@@ -414,8 +347,8 @@ module _ (p : Programs) (ready : IsReady p) (ranges : IsInRange p) (t : Tables) 
       let f = wire_of (t.parts r).taken in
       let at = settled_at r i 2 here q refl refl in
       subst (IsSafe p t) (same_Some _ _ e) (one_safe f (pair_of f) (second_bit (t.parts r).taken) (Phase 4 f) refl tt (InSlot r q, at, engaged_so r i 2 here (pair_of f) refl refl) (placed_counted f (InSlot r q) at) (pair_real f))
-  safe_rank r (instr.MoveFrom q from tag) (suc (suc (suc s))) here d e = none_owed d e
-  safe_rank r (instr.UndoTo q to tag) zero here d e = none_owed d e
+  safe_rank r (instr.MoveFrom q from tag) (suc (suc (suc s))) here d e = no_debt d e
+  safe_rank r (instr.UndoTo q to tag) zero here d e = no_debt d e
   safe_rank r (instr.UndoTo q to tag) (suc zero) here d e =
       let i = instr.UndoTo q to tag in
       let w = wire_in t r q in
@@ -425,22 +358,22 @@ module _ (p : Programs) (ready : IsReady p) (ranges : IsInRange p) (t : Tables) 
         counted = λ a k m. absurd (back_not_pair to a k m);
         real = λ m. let n : ⊥ = cc in n;
       })
-  safe_rank r (instr.UndoTo q to tag) (suc (suc s)) here d e = none_owed d e
-  safe_rank r (instr.UndoFrom q from tag) zero here d e = none_owed d e
+  safe_rank r (instr.UndoTo q to tag) (suc (suc s)) here d e = no_debt d e
+  safe_rank r (instr.UndoFrom q from tag) zero here d e = no_debt d e
   safe_rank r (instr.UndoFrom q from tag) (suc zero) here d e =
       let i = instr.UndoFrom q from tag in
       let w = wire_in t r q in
       subst (IsSafe p t) (same_Some _ _ e) (one_safe w (BackTo r) (first_bit (t.parts r).taken) (Phase 4 w) refl tt
       (slot_in r i 1 here q (BackTo r) (operand_at r i 1 here q refl (step_in r i 1 here).slots) refl refl) (λ a k m. absurd (back_not_pair r a k m)) (λ m. let n : ⊥ = cc in n))
-  safe_rank r (instr.UndoFrom q from tag) (suc (suc s)) here d e = none_owed d e
-  safe_rank r (instr.ReachTo q to tag) zero here d e = none_owed d e
+  safe_rank r (instr.UndoFrom q from tag) (suc (suc s)) here d e = no_debt d e
+  safe_rank r (instr.ReachTo q to tag) zero here d e = no_debt d e
   safe_rank r (instr.ReachTo q to tag) (suc zero) here d e =
       let i = instr.ReachTo q to tag in
       subst (IsSafe p t) (same_Some _ _ e) (paired_safe r i 1 q to here (lane r to kind.Reach tag) refl refl refl refl (operand_at r i 1 here q refl (step_in r i 1 here).slots) refl)
   safe_rank r (instr.ReachTo q to tag) (suc (suc zero)) here d e =
       let i = instr.ReachTo q to tag in
       subst (IsSafe p t) (same_Some _ _ e) (crossed_safe r i 2 q to here (lane r to kind.Reach tag) refl refl refl refl (operand_at r i 2 here q refl (step_in r i 2 here).slots) refl)
-  safe_rank r (instr.ReachTo q to tag) (suc (suc (suc zero))) here d e = none_owed d e
+  safe_rank r (instr.ReachTo q to tag) (suc (suc (suc zero))) here d e = no_debt d e
   safe_rank r (instr.ReachTo q to tag) (suc (suc (suc (suc zero)))) here d e =
       let i = instr.ReachTo q to tag in
       let w = wire_in t r q in
@@ -455,14 +388,14 @@ module _ (p : Programs) (ready : IsReady p) (ranges : IsInRange p) (t : Tables) 
           let same : (t.parts r).made ≡ (t.parts c).made = ap (λ x. (t.parts x).made) parts.0 in
           let m : (t.parts r).made - 1 ≡ j = parts.1 in
           omega arith
-  safe_rank r (instr.ReachTo q to tag) (suc (suc (suc (suc (suc s))))) here d e = none_owed d e
-  safe_rank r (instr.ReachFrom q from tag) zero here d e = none_owed d e
+  safe_rank r (instr.ReachTo q to tag) (suc (suc (suc (suc (suc s))))) here d e = no_debt d e
+  safe_rank r (instr.ReachFrom q from tag) zero here d e = no_debt d e
   safe_rank r (instr.ReachFrom q from tag) (suc zero) here d e = subst (IsSafe p t) (same_Some _ _ e) (reach_safe_flip r q from tag 1 here refl)
   safe_rank r (instr.ReachFrom q from tag) (suc (suc zero)) here d e = subst (IsSafe p t) (same_Some _ _ e) (reach_safe_plain r q from tag 2 here refl)
   safe_rank r (instr.ReachFrom q from tag) (suc (suc (suc zero))) here d e = subst (IsSafe p t) (same_Some _ _ e) (reach_safe_cross r q from tag 3 here refl)
   safe_rank r (instr.ReachFrom q from tag) (suc (suc (suc (suc zero)))) here d e = subst (IsSafe p t) (same_Some _ _ e) (reach_safe_had r q from tag 4 here refl)
-  safe_rank r (instr.ReachFrom q from tag) (suc (suc (suc (suc (suc s))))) here d e = none_owed d e
-  safe_rank r _ s here d e = none_owed d e
+  safe_rank r (instr.ReachFrom q from tag) (suc (suc (suc (suc (suc s))))) here d e = no_debt d e
+  safe_rank r _ s here d e = no_debt d e
 
   -- ---- the debts of parcels
   parcel_at : (a : Lane) (x : Parcel) → is_half a.kind ≡ true → Contains (t.lanes a) x → IsAt t (wire_of x) (FarOf a.to)
@@ -471,14 +404,11 @@ module _ (p : Programs) (ready : IsReady p) (ranges : IsInRange p) (t : Tables) 
       let wire = some_is x.wire no_wire (All-contains HasWire (t.lanes a) x ((stood.well.lanes a).wired k) there) in
       stood.well.tidy.carried a j (wire_of x) (record { parcel = x; there = slice_get_read (t.lanes a) (length (t.lanes a)) j x refl below (sym is); wire = wire })
 
-  some_there : (xs : List Parcel) (x : Parcel) → Contains xs x → 0 < length xs
-  some_there xs x (k, below, is) = omega arith
-
   apart_lane : (c : Lane) (x : Parcel) → Contains (t.lanes c) x → c.from ≢ c.to
   apart_lane c x there self = let z : length (t.lanes c) ≡ 0 = ap (λ (ys : List Parcel). length ys) (stood.selfless c self) in let some = some_there (t.lanes c) x there in omega arith
 
   safe_parcel : (a : Lane) (x : Parcel) (d : Debt) (k : Kind) → a.kind ≡ k → Contains (t.lanes a) x → is_some x.bits ≡ true → parcel_letters p t a k x ≡ Some d → IsSafe p t d
-  safe_parcel a x d kind.Bit same there bits e = none_owed d e
+  safe_parcel a x d kind.Bit same there bits e = no_debt d e
   safe_parcel a x d kind.Copy same there bits e =
       let f = wire_of x in
       let at = parcel_at a x (ap is_half same) there in
@@ -528,13 +458,13 @@ module _ (p : Programs) (ready : IsReady p) (ranges : IsInRange p) (t : Tables) 
   safe (Rank r) d owes = by_read (current p t r) refl owes
     where
       by_read : (o : Option Instr) → current p t r ≡ o → debt_in r (t.parts r) (wire_in t r) (source_wire p t) o (t.parts r).stage ≡ Some d → IsSafe p t d
-      by_read None read e = none_owed d e
+      by_read None read e = no_debt d e
       by_read (Some i) read e = safe_rank r i (t.parts r).stage (record { read = read; stage = refl }) d e
   safe (OnLane a x) d owes = by_bits (is_some x.bits) refl owes.1
     where
       by_bits : (b : Bool) → is_some x.bits ≡ b → cond b (parcel_letters p t a a.kind x) None ≡ Some d → IsSafe p t d
       by_bits true bits e = safe_parcel a x d a.kind refl owes.0 bits e
-      by_bits false bits e = none_owed d e
+      by_bits false bits e = no_debt d e
 
   pub custody : AllInCustody p t
   custody h d owes w n = each_naming (λ v. IsInCustody p t v d.message) d.letters w (safe h d owes).named n

@@ -1,5 +1,4 @@
 -- What the ideal machine sees of each event: its step, or nothing
-use mathlib.Core.Path.{fun_ext}
 use Rattle.std.proofs.Common.{◌≡◌, ◌≢◌, ℕ, ◌+◌, nat_lt, Bool, true, false, cond, ◌&&◌, List, [], ◌∷◌, ◌++◌, drop, fold, Some, None, is_some, slice_index_or, refl, sym, ap, ap₂, ◌∙◌}
 use Rattle.qm_denot.specs.Parcels.{filled}
 use Rattle.qm_instr.specs.declared.Instr.{Instr}
@@ -15,22 +14,12 @@ use Rattle.qm_proto.specs.declared.Act.{Act}
 use Rattle.qm_proto.specs.Model.Acts.{all_done}
 use Rattle.qm_proto.specs.Model.Rows.{instr_at}
 use Rattle.qm_proto.specs.Model.Ideal.{IdealPart, IdealTables, Load, Carried, Token, IdealAct, Counts, SlotSet, Puts, Takes, OwnUsed, BitSet, ideal_done, ideal_moved_on, Told}
-use Rattle.qm_proto.proofs.Changes.{with_at-here, with_at-elsewhere}
+use Rattle.qm_proto.proofs.Changes.{with_at-here, with_at-elsewhere, by_number}
 use Rattle.qm_runs.specs.Following.Seen.{part_seen, load_seen, is_seen, loads_seen, tables_seen}
 use Rattle.qm_runs.proofs.Tables.NextEvents.{IsNext, event_done, part_on, part_ended, part_elsewhere}
-use Rattle.qm_runs.proofs.Tables.FarSteps.{by_number}
+use Rattle.qm_proto.proofs.IdealRuns.{tables_same}
 
 -- ---- equal tables
-pub tables_same : (t u : IdealTables) → ((r : ℕ) → t.parts r ≡ u.parts r) → ((r q : ℕ) → t.slots r q ≡ u.slots r q)
-    → ((a : Lane) → t.lanes a ≡ u.lanes a) → t ≡ u
-tables_same t u parts slots lanes =
-    let a : t.parts ≡ u.parts = fun_ext parts in
-    let b : t.slots ≡ u.slots = fun_ext (λ r. fun_ext (slots r)) in
-    let c : t.lanes ≡ u.lanes = fun_ext lanes in
-    ap (λ f. let x : IdealTables = record { parts = f; slots = t.slots; lanes = t.lanes } in x) a
-    ∙ ap (λ f. let x : IdealTables = record { parts = u.parts; slots = f; lanes = t.lanes } in x) b
-    ∙ ap (λ f. let x : IdealTables = record { parts = u.parts; slots = u.slots; lanes = f } in x) c
-
 -- ---- ideal acts of a rank leave other ranks as they are
 ideal_elsewhere : (r k : ℕ) → k ≢ r → (acts : List IdealAct) (t : IdealTables) → (fold (ideal_done r) t acts).parts k ≡ t.parts k
 ideal_elsewhere r k other [] t = refl

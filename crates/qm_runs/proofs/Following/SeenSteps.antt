@@ -31,6 +31,7 @@ use Rattle.qm_runs.proofs.Following.Opens.{IsLast}
 use Rattle.qm_runs.proofs.Following.Stood.{IsStood}
 use Rattle.qm_runs.proofs.Following.Safe.{made_some}
 use Rattle.qm_runs.proofs.Following.Deeds.{ideal_after}
+use Rattle.qm_runs.proofs.Tables.Lines.{never}
 
 -- ---- the ideal part of the acting rank
 abbrev ideal_one : IdealAct → IdealPart → IdealPart
@@ -204,9 +205,6 @@ module _ (p : Programs) (ready : IsReady p) (ranges : IsInRange p) (t : Tables) 
       → loads_seen b.kind (with_lane t.lanes (lane x y kind.Reach g) xs b) ≡ loads_seen b.kind (t.lanes b)
   reach_unseen x y g xs b = loads_kept t.lanes (lane x y kind.Reach g) xs b (none_seen xs ∙ sym (none_seen (t.lanes (lane x y kind.Reach g))))
 
-  never_event : {A : Type 0} → false ≡ true → A
-  never_event e = cc
-
   pub sees : (i : Instr) (s : ℕ) → IsNext p t r i s → tables_seen p (after p t r i s) ≡ ideal_after p t r i s
   sees (instr.Alloc q) zero next =
       let i = instr.Alloc q in
@@ -295,12 +293,12 @@ module _ (p : Programs) (ready : IsReady p) (ranges : IsInRange p) (t : Tables) 
   sees (instr.ReachFrom q from tag) (suc (suc (suc (suc zero)))) next =
       let i = instr.ReachFrom q from tag in
       step_ended p t r i 4 next 5 (acts_of (row_at p t r i 4)) (steps i) refl refl (λ k j. refl) (gains (lane r from kind.Back tag) (told (protocol_next t r)) Token refl)
-  sees (instr.CopyTo q to tag) (suc (suc (suc s))) next = never_event next.holds
-  sees (instr.CopyFrom q from tag) (suc (suc s)) next = never_event next.holds
-  sees (instr.MoveTo q to tag) (suc (suc (suc (suc (suc s))))) next = never_event next.holds
-  sees (instr.MoveFrom q from tag) (suc (suc (suc s))) next = never_event next.holds
-  sees (instr.UndoTo q to tag) (suc (suc s)) next = never_event next.holds
-  sees (instr.UndoFrom q from tag) (suc (suc s)) next = never_event next.holds
-  sees (instr.ReachTo q to tag) (suc (suc (suc (suc (suc s))))) next = never_event next.holds
-  sees (instr.ReachFrom q from tag) (suc (suc (suc (suc (suc s))))) next = never_event next.holds
-  sees _ (suc s) next = never_event next.holds
+  sees (instr.CopyTo q to tag) (suc (suc (suc s))) next = never next.holds
+  sees (instr.CopyFrom q from tag) (suc (suc s)) next = never next.holds
+  sees (instr.MoveTo q to tag) (suc (suc (suc (suc (suc s))))) next = never next.holds
+  sees (instr.MoveFrom q from tag) (suc (suc (suc s))) next = never next.holds
+  sees (instr.UndoTo q to tag) (suc (suc s)) next = never next.holds
+  sees (instr.UndoFrom q from tag) (suc (suc s)) next = never next.holds
+  sees (instr.ReachTo q to tag) (suc (suc (suc (suc (suc s))))) next = never next.holds
+  sees (instr.ReachFrom q from tag) (suc (suc (suc (suc (suc s))))) next = never next.holds
+  sees _ (suc s) next = never next.holds

@@ -39,7 +39,8 @@ use Rattle.qm_runs.proofs.Following.SeenLaws.{filled_last}
 use Rattle.qm_runs.proofs.Following.Places.{IsIn, before_event, after, own_ended, goes_on, fresh_stage}
 use Rattle.qm_runs.proofs.Following.Opens.{IsLast, makes, counts}
 use Rattle.qm_runs.proofs.Following.Stood.{IsStood}
-use Rattle.qm_runs.proofs.Following.Safe.{step_in, operand_at, operand_in, far_in, near_in, moved_near, corrections_of, made_some}
+use Rattle.qm_runs.proofs.Following.SafeDebts.{moved_near, corrections_of}
+use Rattle.qm_runs.proofs.Following.Safe.{step_in, operand_at, operand_in, far_in, near_in, made_some}
 use Rattle.qm_runs.proofs.Following.Frames.{rank_debt_at, debt_on, debt_ended, fresh_debt, same_lanes_kept, pushed_kept}
 use Rattle.qm_runs.proofs.Following.Agreeing.{is_test}
 use Rattle.qm_runs.proofs.Following.Safe.{not_uncounted}

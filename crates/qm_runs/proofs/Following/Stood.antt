@@ -1,7 +1,7 @@
 -- What is so of the tables at all times of a run: well tables, open halves, and the links of undos and reaches
 use Rattle.std.proofs.Common.{◌≡◌, ◌≢◌, ℕ, ◌+◌, ◌<◌, ◌≤◌, nat_eq, nat_lt, Bool, true, false, ◌&&◌, List, [], ◌∷◌, ◌++◌, length, drop, Option, Some, None, is_some, slice_get, Contains, refl, sym, ap, ap₂, subst, ◌∙◌, arith, ⊎_elim}
 use Rattle.std.proofs.lemmas.Bool.{cases_lt, and_parts, eqb-true, eq-eqb}
-use Rattle.std.proofs.lemmas.List.{get_or_past}
+use Rattle.std.proofs.lemmas.List.{get_or_past, nil_from_length}
 use Rattle.std.proofs.lemmas.Option.{same_Some}
 use Rattle.qm_denot.specs.Parcels.{filled}
 use Rattle.qm_instr.specs.declared.Instr.{Instr}
@@ -31,7 +31,8 @@ use Rattle.qm_runs.proofs.Tables.Standing.{well_at_start, well_next}
 use Rattle.qm_runs.proofs.Following.Places.{IsIn, lanes_go}
 use Rattle.qm_runs.proofs.Following.UndoLinks.{IsLinked, link_next}
 use Rattle.qm_runs.proofs.Following.Opens.{IsOpen, open_event}
-use Rattle.qm_runs.proofs.Following.ReachLinks.{IsChained, one_if, filled_in, filled_there, waits_at, takes_at, chain_event}
+use Rattle.qm_runs.proofs.Following.ReachChains.{IsChained, one_if, filled_in, filled_there, waits_at, takes_at}
+use Rattle.qm_runs.proofs.Following.ReachLinks.{chain_event, takes_fresh, waits_fresh}
 
 -- a rank with an instruction left is one of the programs'
 pub known_rank : (p : Programs) (t : Tables) (r : ℕ) (i : Instr) → current p t r ≡ Some i → r < length p.ranks
@@ -93,24 +94,14 @@ stood_at_start p ready ranges = record {
   };
   reach = λ a b tag apart. record {
     count =
-        let x = ap one_if (none_takes a tag (current p (tables_at_start p) b)) in
-        let y = ap one_if (none_waits b tag (current p (tables_at_start p) a)) in
+        let x = ap one_if (takes_fresh a tag (current p (tables_at_start p) b)) in
+        let y = ap one_if (waits_fresh b tag (current p (tables_at_start p) a)) in
         omega arith;
     named = λ x (k, below, is) bits. absurd (omega arith);
-    taken = λ on. absurd (let z = none_takes a tag (current p (tables_at_start p) b) in let n : ⊥ = cc in n);
+    taken = λ on. absurd (let z = takes_fresh a tag (current p (tables_at_start p) b) in let n : ⊥ = cc in n);
   };
   selfless = λ c e. refl;
 }
-  where
-    none_takes : (a tag : ℕ) (o : Option Instr) → takes_at a tag o 0 ≡ false
-    none_takes a tag (Some (instr.ReachFrom q from g)) = refl
-    none_takes a tag (Some _) = refl
-    none_takes a tag None = refl
-
-    none_waits : (b tag : ℕ) (o : Option Instr) → waits_at b tag o 0 ≡ false
-    none_waits b tag (Some (instr.ReachTo q to g)) = refl
-    none_waits b tag (Some _) = refl
-    none_waits b tag None = refl
 
 module _ (p : Programs) (ready : IsReady p) (ranges : IsInRange p) (t : Tables) (r : ℕ) (stood : IsStood p t) where
   pub steps : r < length p.ranks → (i : Instr) → current p t r ≡ Some i → IsStep p r (t.parts r).at i
@@ -153,10 +144,6 @@ pub record Waits (p : Programs) (t : Tables) (a b tag : ℕ) : Type 0 where
   pub slot : ℕ
   pub here : IsIn p t a (instr.ReachTo slot b tag) 3
 
-no_length : {A : Type 0} (xs : List A) → length xs ≡ 0 → xs ≡ []
-no_length [] e = refl
-no_length (x ∷ xs) e = absurd (omega arith)
-
 module _ (p : Programs) (t : Tables) (stood : IsStood p t) (a b tag : ℕ) (apart : a ≢ b) where
   chain : IsChained p t a b tag
   chain = stood.reach a b tag apart
@@ -175,7 +162,7 @@ module _ (p : Programs) (t : Tables) (stood : IsStood p t) (a b tag : ℕ) (apar
       let some = filled_there (t.lanes (lane a b kind.Reach tag)) x h bits in
       let count = (stood.reach a b tag apart).count in
       let few = at_most_one (waits_at b tag (current p t a) (t.parts a).stage) in
-      (waiting (omega arith), no_length (t.lanes (lane b a kind.Back tag)) (omega arith), (stood.reach a b tag apart).named x h bits)
+      (waiting (omega arith), nil_from_length (t.lanes (lane b a kind.Back tag)) (omega arith), (stood.reach a b tag apart).named x h bits)
 
   -- while the half is at the second rank
   pub half_taken : (q s : ℕ) → IsIn p t b (instr.ReachFrom q a tag) s → nat_lt 0 s ≡ true
@@ -187,7 +174,7 @@ module _ (p : Programs) (t : Tables) (stood : IsStood p t) (a b tag : ℕ) (apar
       let one : one_if (takes_at a tag (current p t b) (t.parts b).stage) ≡ 1 = ap one_if on in
       let count = (stood.reach a b tag apart).count in
       let few = at_most_one (waits_at b tag (current p t a) (t.parts a).stage) in
-      (waiting (omega arith), no_length (t.lanes (lane b a kind.Back tag)) (omega arith), (stood.reach a b tag apart).taken on)
+      (waiting (omega arith), nil_from_length (t.lanes (lane b a kind.Back tag)) (omega arith), (stood.reach a b tag apart).taken on)
 
   -- while the answer is on its way
   pub answer_on_way : 0 < length (t.lanes (lane b a kind.Back tag)) → Waits p t a b tag × (length (t.lanes (lane b a kind.Back tag)) ≤ 1)

@@ -37,6 +37,7 @@ use Rattle.qm_runs.proofs.Following.Agreeing.{source_wire_at}
 use Rattle.qm_runs.proofs.Following.Events.{one_wire, one_named, two_named, if_named, letters_so, fresh_slots, finds_on}
 use Rattle.qm_runs.proofs.Following.Givings.{asking}
 use Rattle.qm_runs.proofs.Following.Engaged.{IsClear, slot_clear, own_clear, new_clear, one_clear, two_clear, gate_clear}
+use Rattle.qm_runs.proofs.Tables.Lines.{never}
 
 -- some test of the list looks at the wire
 abbrev pub AreLooking : List Check → Wire → Type 0
@@ -136,9 +137,6 @@ module _ (p : Programs) (ready : IsReady p) (ranges : IsInRange p) (t : Tables) 
   nothing_touched : (k : Message) (w : Wire) → ⊥ ⊎ ⊥ → IsClear p t k w
   nothing_touched k w (inl h) = absurd h
   nothing_touched k w (inr h) = absurd h
-
-  never_event : {A : Type 0} → false ≡ true → A
-  never_event e = cc
 
   -- ---- every event of every instruction
   pub touch_clear : (i : Instr) (s : ℕ) → IsNext p t r i s → (w : Wire) → TouchedBy p t r i s w → IsClear p t (event_at t r i s) w
@@ -297,12 +295,12 @@ module _ (p : Programs) (ready : IsReady p) (ranges : IsInRange p) (t : Tables) 
       let i = instr.ReachFrom q from tag in
       let f = wire_of (t.parts r).taken in
       take_touch f (pair_of f) (protocol_next t r) (own_clear p ready ranges t stood ideal f (pair_of f) (half_in p ready ranges t stood r q from tag 4 (before_event p t r i 4 next) refl)) w h
-  touch_clear (instr.CopyTo q to tag) (suc (suc (suc s))) next w h = never_event next.holds
-  touch_clear (instr.CopyFrom q from tag) (suc (suc s)) next w h = never_event next.holds
-  touch_clear (instr.MoveTo q to tag) (suc (suc (suc (suc (suc s))))) next w h = never_event next.holds
-  touch_clear (instr.MoveFrom q from tag) (suc (suc (suc s))) next w h = never_event next.holds
-  touch_clear (instr.UndoTo q to tag) (suc (suc s)) next w h = never_event next.holds
-  touch_clear (instr.UndoFrom q from tag) (suc (suc s)) next w h = never_event next.holds
-  touch_clear (instr.ReachTo q to tag) (suc (suc (suc (suc (suc s))))) next w h = never_event next.holds
-  touch_clear (instr.ReachFrom q from tag) (suc (suc (suc (suc (suc s))))) next w h = never_event next.holds
-  touch_clear _ (suc s) next w h = never_event next.holds
+  touch_clear (instr.CopyTo q to tag) (suc (suc (suc s))) next w h = never next.holds
+  touch_clear (instr.CopyFrom q from tag) (suc (suc s)) next w h = never next.holds
+  touch_clear (instr.MoveTo q to tag) (suc (suc (suc (suc (suc s))))) next w h = never next.holds
+  touch_clear (instr.MoveFrom q from tag) (suc (suc (suc s))) next w h = never next.holds
+  touch_clear (instr.UndoTo q to tag) (suc (suc s)) next w h = never next.holds
+  touch_clear (instr.UndoFrom q from tag) (suc (suc s)) next w h = never next.holds
+  touch_clear (instr.ReachTo q to tag) (suc (suc (suc (suc (suc s))))) next w h = never next.holds
+  touch_clear (instr.ReachFrom q from tag) (suc (suc (suc (suc (suc s))))) next w h = never next.holds
+  touch_clear _ (suc s) next w h = never next.holds

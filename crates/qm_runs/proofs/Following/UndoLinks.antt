@@ -23,6 +23,7 @@ use Rattle.qm_proto.proofs.Changes.{with_lane-here, with_lane-elsewhere}
 use Rattle.qm_runs.specs.Tables.Lines.{row_at, acts_of}
 use Rattle.qm_runs.proofs.Tables.NextEvents.{IsNext, event_done, part_elsewhere, stage_on, stage_ended}
 use Rattle.qm_runs.proofs.Following.Places.{IsIn}
+use Rattle.std.proofs.lemmas.List.{nil_from_length}
 
 -- ---- acts that touch no lane of a kind leave these lanes
 abbrev pub touches : Kind → List Act → Bool
@@ -230,10 +231,6 @@ pub record IsLinked (p : Programs) (t : Tables) (r d tag : ℕ) : Type 0 where
   pub posted : 0 < length (t.lanes (lane r d kind.Undo tag)) → IsReady p t d r tag
   pub single : length (t.lanes (lane r d kind.Undo tag)) ≤ 1
 
-no_parcels : (xs : List Parcel) → length xs ≡ 0 → xs ≡ []
-no_parcels [] e = refl
-no_parcels (x ∷ xs) e = absurd (omega arith)
-
 other_receive : (a b : Lane) → is_lane a b ≡ true → a ≢ b → ⊥
 other_receive a b e ne = ne (same_lane a b e)
 
@@ -248,6 +245,9 @@ receives_back d r tag (Some (instr.MoveFrom b from g)) e = absurd (other_receive
 receives_back d r tag (Some (instr.ReachFrom b from g)) e = absurd (other_receive (lane from d kind.Reach g) (lane r d kind.Undo tag) e (λ s. let z = ap (λ (c : Lane). c.kind) s in let n : ⊥ = cc in n))
 receives_back d r tag None e = absurd (let n : ⊥ = cc in n)
 receives_back d r tag (Some _) e = absurd (let n : ⊥ = cc in n)
+
+pub no_front : (xs : List Parcel) → xs ≡ [] → is_some (slice_index_or xs 0 no_parcel).bits ≡ true → ⊥
+no_front xs e h = let z : is_some no_parcel.bits ≡ true = subst (λ ys. is_some (slice_index_or ys 0 no_parcel).bits ≡ true) e h in cc
 
 module _ (p : Programs) (t : Tables) (r0 : ℕ) (i : Instr) (s : ℕ) (next : IsNext p t r0 i s) (r d tag : ℕ) (apart : d ≢ r) (old : IsLinked p t r d tag) where
   a : Lane
@@ -272,10 +272,7 @@ module _ (p : Programs) (t : Tables) (r0 : ℕ) (i : Instr) (s : ℕ) (next : Is
       let it = takes e ready in
       let bits : is_some (front t (lane r r0 kind.Undo tag)).bits ≡ true = holds_at (instr.UndoFrom it.0 r tag) 0 it.1 it.2 in
       let none : t.lanes (lane r r0 kind.Undo tag) ≡ [] = subst (λ k. t.lanes (lane r k kind.Undo tag) ≡ []) e empty in
-      nothing (t.lanes (lane r r0 kind.Undo tag)) none bits
-    where
-      nothing : (xs : List Parcel) → xs ≡ [] → is_some (slice_index_or xs 0 no_parcel).bits ≡ true → ⊥
-      nothing xs e h = let z : is_some no_parcel.bits ≡ true = subst (λ ys. is_some (slice_index_or ys 0 no_parcel).bits ≡ true) e h in cc
+      no_front (t.lanes (lane r r0 kind.Undo tag)) none bits
 
   -- the lane by the three cases
   module _ where
@@ -349,7 +346,7 @@ module _ (p : Programs) (t : Tables) (r0 : ℕ) (i : Instr) (s : ℕ) (next : Is
             let wanted : is_wanted p t (lane r d kind.Undo tag) ≡ true = subst (λ k. is_wanted p t (lane k d kind.Undo tag) ≡ true) (sym e) wanted0 in
             let one = and_parts (nat_eq (t.parts d).stage 0) (receives_on d (current p t d) (lane r d kind.Undo tag) && nat_eq (length (t.lanes (lane r d kind.Undo tag))) 0) wanted in
             let two = and_parts (receives_on d (current p t d) (lane r d kind.Undo tag)) (nat_eq (length (t.lanes (lane r d kind.Undo tag))) 0) one.1 in
-            let empty = no_parcels (t.lanes (lane r d kind.Undo tag)) (eqb-true (length (t.lanes (lane r d kind.Undo tag))) 0 two.1) in
+            let empty = nil_from_length (t.lanes (lane r d kind.Undo tag)) (eqb-true (length (t.lanes (lane r d kind.Undo tag))) 0 two.1) in
             let back = receives_back d r tag (current p t d) two.0 in
             let ready : IsReady p t d r tag = (back.0, record { read = back.1; stage = eqb-true (t.parts d).stage 0 one.0 }) in
             (empty_after empty (λ g. let z : s ≡ 1 = g.stage in let y : 0 ≡ s = was.stage in absurd (omega arith)), ready_on (λ f. apart (f ∙ sym e)) ready)

@@ -5,7 +5,7 @@ use Rattle.qm_instr.specs.declared.Instr.{Instr}
 use Rattle.qm_instr.specs.declared.Lane.{Lane}
 use Rattle.qm_instr.specs.Lanes.{is_lane}
 use Rattle.qm_proto.specs.Model.Runs.{events_at}
-use Rattle.qm_runs.proofs.Stuck.Shapes.{Move, Puts, Tells, Gets, Shape, shapes}
+use Rattle.qm_runs.specs.Stuck.Shapes.{Move, Puts, Tells, Gets, Shape, shapes}
 
 -- where it stands; for each lane, of each parcel that it has put there, whether it has told its bits; and how many it has taken
 pub record Alone : Type 0 where

@@ -1,10 +1,10 @@
 -- Where no rank has an event left, the lanes of programs without a fault are empty
 use mathlib.Core.Path.{fun_ext}
-use Rattle.std.proofs.Common.{◌⊎◌, ◌≡◌, ℕ, ◌+◌, ◌≤◌, ◌<◌, ◌==◌, nat_eq, Bool, true, false, ◌&&◌, ◌||◌, cond, if◌then◌else◌, List, [], ◌∷◌, length, fold, sum_by, Option, Some, None, is_some, inl, inr, refl, sym, ap, ◌∙◌, arith}
+use Rattle.std.proofs.Common.{◌⊎◌, ◌≡◌, ℕ, ◌+◌, ◌≤◌, ◌<◌, ◌==◌, nat_eq, Bool, true, false, ◌&&◌, ◌||◌, cond, if◌then◌else◌, List, [], length, fold, sum_by, Option, Some, None, is_some, inl, inr, refl, sym, ap, ◌∙◌, arith}
 use Rattle.std.specs.List.{count_by}
 use Rattle.std.specs.Option.{option_map}
 use Rattle.std.proofs.lemmas.Bool.{eqb-true, cases_lt}
-use Rattle.std.proofs.lemmas.List.{get_or_past}
+use Rattle.std.proofs.lemmas.List.{get_or_past, nil_from_length}
 use Rattle.qm_instr.specs.declared.Instr.{Instr}
 use Rattle.qm_instr.specs.declared.Instr.TheVariants as instr
 use Rattle.qm_instr.specs.declared.Kind.{Kind}
@@ -17,13 +17,12 @@ use Rattle.qm_check.specs.declared.Fault.{Fault}
 use Rattle.qm_check.specs.declared.Fault.TheVariants as fault
 use Rattle.qm_check.specs.Checks.{IsReady, Between}
 use Rattle.qm_check.specs.Messages.{lane_posted, is_back, lane_sends, lane_receives}
-use Rattle.qm_denot.specs.declared.Parcel.{Parcel}
 use Rattle.qm_proto.specs.Model.State.{Tables}
 use Rattle.qm_proto.specs.declared.Row.{Row}
 use Rattle.qm_proto.specs.Model.Runs.{row_next, next}
 use Rattle.qm_proto.specs.Model.Schedules.{state_at_start, replay, IsLegal, AllEnded}
 use Rattle.qm_proto.proofs.Positions.{position}
-use Rattle.qm_runs.proofs.Stuck.Shapes.{Shape, shape_of, shapes}
+use Rattle.qm_runs.specs.Stuck.Shapes.{Shape, shape_of, shapes}
 use Rattle.qm_runs.proofs.Stuck.Alone.{shape_next, alone}
 use Rattle.qm_runs.proofs.Stuck.Tracks.{lists, Tracks, shape_same}
 use Rattle.qm_runs.specs.Stuck.LanesEmpty.{LanesEmptyLaw}
@@ -193,11 +192,7 @@ module _ (p : Programs) (ready : IsReady p) (t : Tables) (n : ℕ → ℕ) (trac
       let told = told_is c in
       let taken = taken_is c in
       let same = even c c.kind refl in
-      none_left (t.lanes c) (omega (arith, all, told, taken, same))
-    where
-      none_left : (xs : List Parcel) → length xs ≡ 0 → xs ≡ []
-      none_left [] e = refl
-      none_left (x ∷ xs) e = absurd (omega arith)
+      nil_from_length (t.lanes c) (omega (arith, all, told, taken, same))
 
 pub lanes_empty_law : LanesEmptyLaw
 unfolding replay IsLegal

@@ -11,7 +11,7 @@ use Rattle.qm_check.proofs.TotalLemmas.{sum_more}
 use Rattle.qm_proto.specs.Model.State.{Tables}
 use Rattle.qm_proto.specs.Model.Runs.{events_at}
 use Rattle.qm_runs.proofs.Tables.Lines.{some_events}
-use Rattle.qm_runs.proofs.Stuck.Shapes.{Move, Puts, Tells, Gets, Shape, shapes}
+use Rattle.qm_runs.specs.Stuck.Shapes.{Move, Puts, Tells, Gets, Shape, shapes}
 use Rattle.qm_runs.proofs.Stuck.Alone.{Alone, marked, told_by, taken_by, shape_in, shape_next, stepped, alone_next, alone}
 use Rattle.qm_runs.proofs.Stuck.LaneFits.{has_bits, taken_few}
 use Rattle.qm_runs.proofs.Stuck.Tracks.{Tracks}

@@ -13,7 +13,8 @@ use Rattle.qm_proto.specs.Model.State.{Tables, with_lane, no_parcel}
 use Rattle.qm_proto.specs.declared.Act.{Act}
 use Rattle.qm_proto.specs.declared.Act.TheVariants.{Fresh, Twin, Apply, SlotOut, NearOut, FarOut, Settle, Posts, Fills, Receives, OwnUsed, ProtocolUsed, FirstKept, BitSet}
 use Rattle.qm_proto.specs.Model.Acts.{done, all_done}
-use Rattle.qm_runs.proofs.Stuck.Shapes.{Move, Puts, Tells, Gets, moves, PutsFit, MovesFit}
+use Rattle.qm_runs.specs.Stuck.Shapes.{Move, Puts, Tells, Gets, moves}
+use Rattle.qm_runs.proofs.Stuck.Shapes.{PutsFit, MovesFit}
 use Rattle.qm_runs.proofs.Stuck.Alone.{marked, told_by, taken_by, get_append, get_marked}
 
 -- whether a parcel has its bits

@@ -19,13 +19,14 @@ use Rattle.qm_proto.specs.Model.Schedules.{tables_at_start, state_at_start, repl
 use Rattle.qm_proto.proofs.Changes.{by_rank}
 use Rattle.qm_proto.proofs.Positions.{position}
 use Rattle.qm_runs.specs.Stuck.NeverStuck.{NeverStuck, EndsComplete, NeverStuckLaw}
-use Rattle.qm_runs.proofs.Stuck.Shapes.{Shape, shape, shape_of, RuleFits, Gets, first_gets}
+use Rattle.qm_runs.specs.Stuck.Shapes.{Shape, shape, shape_of, Gets}
+use Rattle.qm_runs.proofs.Stuck.Shapes.{RuleFits, first_gets}
 use Rattle.qm_runs.proofs.Stuck.Alone.{Alone, shape_in, shape_next, stepped, alone, grows, stays}
 use Rattle.qm_runs.proofs.Stuck.LaneFits.{has_bits, taken_few, get_drop, front_seen, seen_front}
 use Rattle.qm_runs.proofs.Stuck.Tracks.{lists, Tracks, has_row, shape_same, fits_in, tracks_next}
 
 -- ---- the programs with buffers of one
-one_rank : (xs : List RankProgram) (r : ℕ) → slice_index_or (map with_buffer_of_one xs) r idle_rank ≡ with_buffer_of_one (slice_index_or xs r idle_rank)
+pub one_rank : (xs : List RankProgram) (r : ℕ) → slice_index_or (map with_buffer_of_one xs) r idle_rank ≡ with_buffer_of_one (slice_index_or xs r idle_rank)
 one_rank [] r = refl
 one_rank (x ∷ xs) zero = refl
 one_rank (x ∷ xs) (suc r) = one_rank xs r
@@ -33,7 +34,7 @@ one_rank (x ∷ xs) (suc r) = one_rank xs r
 same_lists : (p : Programs) → lists (with_buffers_of_one p) ≡ lists p
 same_lists p = fun_ext (λ r. ap (λ (x : RankProgram). x.instructions) (one_rank p.ranks r))
 
-small : (p : Programs) (r : ℕ) → (rank_of (with_buffers_of_one p) r).buffer ≡ 1
+pub small : (p : Programs) (r : ℕ) → (rank_of (with_buffers_of_one p) r).buffer ≡ 1
 small p r = ap (λ (x : RankProgram). x.buffer) (one_rank p.ranks r)
 
 -- ---- tests

@@ -1,5 +1,5 @@
 -- What the lines of the table do to lanes, and what they wait for: the same at all tables
-use Rattle.std.proofs.Common.{◌≡◌, ℕ, zero, suc, Bool, true, false, List, [], ◌∷◌, map, Some, is_some, slice_get, refl, ap, ap₂, subst}
+use Rattle.std.proofs.Common.{◌≡◌, ℕ, zero, suc, Bool, true, false, List, [], ◌∷◌, map, Some, slice_get, refl, ap, ap₂, subst}
 use Rattle.std.proofs.lemmas.Option.{same_Some}
 use Rattle.qm_denot.specs.declared.Letter.{Letter}
 use Rattle.qm_instr.specs.declared.Instr.{Instr}
@@ -12,65 +12,13 @@ use Rattle.qm_instr.proofs.LaneOrder.{same_lane}
 use Rattle.qm_proto.specs.declared.Rule.{Rule}
 use Rattle.qm_proto.specs.declared.Rule.TheVariants.{Always, PairRoom, Engaged, Filled}
 use Rattle.qm_proto.specs.Model.State.{Tables}
-use Rattle.qm_proto.specs.declared.Act.{Act}
-use Rattle.qm_proto.specs.declared.Act.TheVariants.{Posts, Fills, Receives}
-use Rattle.qm_proto.specs.declared.Row.{Row}
 use Rattle.qm_proto.specs.Model.Acts.{list_of}
 use Rattle.qm_proto.specs.Model.Rows.{rows, letter, few_if}
 use Rattle.qm_proto.specs.Model.Runs.{receives_on}
-
--- what an act does to a lane
-pub data Move : Type 0 where
-  Puts : (a : Lane) (b : Bool) → Move  -- a parcel goes to its end, with or without bits
-  Tells : (a : Lane) → Move  -- its last parcel gets bits
-  Gets : (a : Lane) → Move  -- its front parcel is taken
-
--- what acts do to lanes, in their order
-abbrev pub moves : List Act → List Move
-moves [] = []
-moves (Posts a x ∷ acts) = Puts a (is_some x.bits) ∷ moves acts
-moves (Fills a b ∷ acts) = Tells a ∷ moves acts
-moves (Receives a ∷ acts) = Gets a ∷ moves acts
-moves (_ ∷ acts) = moves acts
-
--- what a line waits for, and what it does to lanes
-pub record Shape : Type 0 where
-  pub rule : Rule
-  pub moves : List Move
-
-abbrev pub shape : Rule → List Move → Shape
-shape rule ms = record { rule = rule; moves = ms }
-
-abbrev pub shape_of : Row → Shape
-shape_of w = shape w.rule (moves (list_of w.acts))
-
--- a line that waits for nothing and moves no parcel
-abbrev still : Shape
-still = shape Always []
-
--- the lines of an instruction of rank r
-abbrev pub shapes : ℕ → Instr → List Shape
-shapes r (instr.SendBit b to tag) = shape Always (Puts (lane r to kind.Bit tag) true ∷ []) ∷ []
-shapes r (instr.RecvBit b from tag) = let a = lane from r kind.Bit tag in shape (Filled a) (Gets a ∷ []) ∷ []
-shapes r (instr.CopyTo q to tag) = let a = lane r to kind.Copy tag in shape (PairRoom a) (Puts a false ∷ []) ∷ still ∷ shape Always (Tells a ∷ []) ∷ []
-shapes r (instr.CopyFrom q from tag) = let a = lane from r kind.Copy tag in shape (Filled a) (Gets a ∷ []) ∷ still ∷ []
-shapes r (instr.UndoTo q to tag) = let a = lane r to kind.Undo tag in shape (Engaged a) [] ∷ shape Always (Puts a true ∷ []) ∷ []
-shapes r (instr.UndoFrom q from tag) = let a = lane from r kind.Undo tag in shape (Filled a) (Gets a ∷ []) ∷ still ∷ []
-shapes r (instr.MoveTo q to tag) =
-    let a = lane r to kind.Move tag in shape (PairRoom a) (Puts a false ∷ []) ∷ still ∷ still ∷ still ∷ shape Always (Tells a ∷ []) ∷ []
-shapes r (instr.MoveFrom q from tag) = let a = lane from r kind.Move tag in shape (Filled a) (Gets a ∷ []) ∷ still ∷ still ∷ []
-shapes r (instr.ReachTo q to tag) =
-    let a = lane r to kind.Reach tag in
-    let back = lane to r kind.Back tag in
-    shape (PairRoom a) (Puts a false ∷ []) ∷ still ∷ shape Always (Tells a ∷ []) ∷ shape (Filled back) (Gets back ∷ []) ∷ still ∷ []
-shapes r (instr.ReachFrom q from tag) =
-    let a = lane from r kind.Reach tag in
-    let back = lane r from kind.Back tag in
-    shape (Filled a) (Gets a ∷ []) ∷ still ∷ still ∷ still ∷ shape Always (Puts back true ∷ []) ∷ []
-shapes r _ = still ∷ []
+use Rattle.qm_runs.specs.Stuck.Shapes.{Move, Puts, Tells, Gets, moves, Shape, shape, shape_of, still, shapes}
 
 -- letters move no lane
-none_moves : (b : Bool) (l : Letter) → moves (list_of (few_if b (letter l))) ≡ []
+pub none_moves : (b : Bool) (l : Letter) → moves (list_of (few_if b (letter l))) ≡ []
 none_moves true l = refl
 none_moves false l = refl
 

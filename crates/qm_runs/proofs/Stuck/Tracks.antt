@@ -16,7 +16,8 @@ use Rattle.qm_proto.specs.Model.Rows.{rows, current}
 use Rattle.qm_proto.specs.Model.Runs.{row_in, row_next, row_holds, row_done, holds, enabled, events_at, moved_on, next_tables}
 use Rattle.qm_proto.proofs.Changes.{with_at-here, with_at-elsewhere}
 use Rattle.qm_proto.proofs.Positions.{position, position_kept, over_acts}
-use Rattle.qm_runs.proofs.Stuck.Shapes.{Shape, shape_of, rows_shapes, Fits, fits}
+use Rattle.qm_runs.specs.Stuck.Shapes.{Shape, shape_of}
+use Rattle.qm_runs.proofs.Stuck.Shapes.{rows_shapes, Fits, fits}
 use Rattle.qm_runs.proofs.Stuck.LaneFits.{has_bits, seen_by, acts_seen, LaneFits, fits_next, told_else, taken_else, front_seen}
 use Rattle.qm_runs.proofs.Stuck.Alone.{Alone, told_by, taken_by, past, shape_in, shape_next, stepped, alone}
 

@@ -1,7 +1,7 @@
 -- How long a schedule may be, and how many letters, halvings and counted wires it leaves
 use Rattle.std.proofs.Common.{◌≡◌, ◌≢◌, ℕ, ◌+◌, ◌*◌, ◌<◌, ◌≤◌, nat_lt, nat_le, Bool, true, false, ◌&&◌, is_some, Option, Some, None, List, [], ◌∷◌, length, take, get_or, length-append, inl, inr, refl, sym, ap, subst, ◌∙◌, arith}
 use Rattle.std.proofs.lemmas.Bool.Decides.{eqb_tells}
-use Rattle.std.proofs.lemmas.Bool.{ltb-false, leb-true}
+use Rattle.std.proofs.lemmas.Bool.{ltb-false, leb-true, and_parts}
 use Rattle.std.proofs.lemmas.Option.{slice_get_within, get_or_from_slice_get}
 use Rattle.std.proofs.lemmas.List.Elements.{All-from_recursion, All-get_or}
 use Rattle.std.proofs.lemmas.List.Sums.{sum_by-cons, sum_by_more, sum_by_more_le}
@@ -26,8 +26,9 @@ use Rattle.qm_proto.proofs.Changes.{by_test, by_rank, with_at-here, with_at-else
 use Rattle.qm_proto.proofs.Positions.{all_at_kept, all_stage_kept, all_other_parts_kept}
 use Rattle.qm_proto.proofs.Replays.{over_legal_counted}
 use Rattle.qm_runs.proofs.Tables.Lines.{rows_count}
-use Rattle.qm_runs.specs.Tables.Totals.{event_total}
-use Rattle.qm_runs.proofs.Tables.Sums.{sum_below, sum_below-none, sum_below-le, sum_below-lt, sum_below-one_more, sum_by-is_below}
+use Rattle.qm_runs.specs.Tables.Totals.{event_total, sum_below}
+use Rattle.qm_runs.proofs.Tables.Sums.{sum_below-none, sum_below-le, sum_below-lt, sum_below-one_more, sum_by-is_below}
+use Rattle.qm_runs.proofs.Tables.TidyShapes.{moved_made}
 
 -- rank r stands at this instruction and this row of it
 record IsNext (p : Programs) (t : Tables) (r : ℕ) : Type 0 where
@@ -184,10 +185,6 @@ rows_few p t r (instr.MoveFrom q from tag) = (refl, (search few_once, (search fe
 rows_few p t r (instr.ReachTo q to tag) = (refl, (refl, (refl, (refl, (search few_once, tt)))))
 rows_few p t r (instr.ReachFrom q from tag) = (refl, (search few_once, (refl, (refl, (refl, tt)))))
 
-both : (a b : Bool) → (a && b) ≡ true → (a ≡ true) × (b ≡ true)
-both true b e = (refl, e)
-both false b e = cc
-
 -- what the test says
 record AreFew (acts : List Act) : Type 0 where
   letters : sum_by letters_in acts ≤ 1
@@ -195,7 +192,7 @@ record AreFew (acts : List Act) : Type 0 where
 
 few : (acts : List Act) → are_few acts ≡ true → AreFew acts
 few acts e =
-    let h = both (nat_le (sum_by letters_in acts) 1) (nat_le (sum_by wires_in acts) 1) e in
+    let h = and_parts (nat_le (sum_by letters_in acts) 1) (nat_le (sum_by wires_in acts) 1) e in
     record { letters = leb-true (sum_by letters_in acts) 1 h.0; wires = leb-true (sum_by wires_in acts) 1 h.1 }
 
 row_few : (p : Programs) (t : Tables) (r : ℕ) (n : IsNext p t r) → AreFew (list_of n.row.acts)
@@ -227,7 +224,7 @@ halves-le : (l : Letter) → halves_of l ≤ 1
 halves-le (Phase k w) = omega arith
 halves-le _ = omega arith
 
-halvings-le : (c : Circuit) → halvings c ≤ length c
+pub halvings-le : (c : Circuit) → halvings c ≤ length c
 halvings-le [] = omega arith
 halvings-le (l ∷ ls) = let rest = halvings-le ls in omega (arith, halves-le l)
 
@@ -251,11 +248,6 @@ made_in_all r k [] t = omega arith
 made_in_all r k (a ∷ acts) t =
     let rest = made_in_all r k acts (done r a t) in
     omega (arith, made_once r k a t, sum_by-cons wires_in a acts)
-
-moved_made : (n : ℕ) (x : Part) → (moved_on n x).made ≡ x.made
-moved_made n x =
-    by_test (λ (y : Part). y.made ≡ x.made) (nat_lt (x.stage + 1) n) (record x { stage = x.stage + 1 }) (record x { at = x.at + 1; stage = 0 })
-    (λ _. refl) (λ _. refl)
 
 next_made_few : (p : Programs) (t : Tables) (r k : ℕ) → IsNext p t r → ((next_tables p t r).parts k).made ≤ (t.parts k).made + 1
 next_made_few p t r k n =

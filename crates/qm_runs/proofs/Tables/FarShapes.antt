@@ -28,14 +28,14 @@ use Rattle.qm_proto.specs.Model.Rows.{rows, instr_at, current, half, told, lette
 use Rattle.qm_proto.specs.Model.Runs.{holds, is_wanted, halves}
 use Rattle.qm_proto.specs.Model.Places.{FarOf}
 use Rattle.qm_proto.specs.Model.Tidy.{IsTidy, IsInHand}
-use Rattle.qm_proto.proofs.Changes.{by_lane, with_at-here, with_at-elsewhere, with_lane-here}
+use Rattle.qm_proto.proofs.Changes.{by_lane, with_at-here, with_at-elsewhere, with_lane-here, by_number}
 use Rattle.qm_proto.proofs.TidyActs.{far_made_absent}
 use Rattle.qm_proto.proofs.TidyLanes.{front_carried}
 use Rattle.qm_runs.specs.Tables.Well.{is_half, keeps_half, is_taking, IsFarWell, AreCounted, IsLaneWell}
 use Rattle.qm_runs.proofs.Tables.NextEvents.{event_done, stage_on, part_elsewhere}
 use Rattle.qm_runs.proofs.Tables.LaneSteps.{length-filled}
 use Rattle.qm_runs.proofs.Tables.Lines.{EachFrom, at_stage}
-use Rattle.qm_runs.proofs.Tables.FarSteps.{front_wire, IsFarAll, by_number, far_by, taking_before, is_wanted_so, wanted_not_taking, taking_at_start}
+use Rattle.qm_runs.proofs.Tables.FarSteps.{front_wire, IsFarAll, far_by, taking_before, is_wanted_so, wanted_not_taking, taking_at_start}
 
 -- ---- by act
 module _ (r : ℕ) where

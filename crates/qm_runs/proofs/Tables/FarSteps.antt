@@ -1,6 +1,6 @@
 -- After each event each rank has room for its far halves
-use Rattle.std.proofs.Common.{◌≡◌, ◌≢◌, ℕ, ◌+◌, ◌<◌, ◌≤◌, nat_eq, nat_lt, Bool, true, false, ◌&&◌, ◌||◌, List, [], ◌∷◌, length, slice_index_or, All, Option, Some, None, is_some, inl, inr, refl, sym, ap, subst, ◌∙◌, arith}
-use Rattle.std.proofs.lemmas.Bool.{and_parts, or_parts, or_cases, cases_eq, eqb-true, ltb-true, ltb-false, le-ltb}
+use Rattle.std.proofs.Common.{◌≡◌, ℕ, ◌+◌, ◌<◌, ◌≤◌, nat_eq, nat_lt, Bool, true, false, ◌&&◌, ◌||◌, List, [], ◌∷◌, length, slice_index_or, All, Option, Some, None, is_some, inl, inr, refl, sym, ap, subst, ◌∙◌, arith}
+use Rattle.std.proofs.lemmas.Bool.{and_parts, or_parts, or_cases, eqb-true, ltb-true, ltb-false, le-ltb}
 use Rattle.std.proofs.lemmas.List.Elements.{All-head}
 use Rattle.std.proofs.lemmas.Option.{same_Some}
 use Rattle.qm_denot.specs.Wires.{no_wires, how_many}
@@ -116,9 +116,6 @@ pub far_by : (p : Programs) (u : Tables) (k : ℕ) (v : Part) → u.parts k ≡ 
 far_by p u k v same h = subst (λ (w : Part). IsFarSound u.lanes k (rank_of p k).buffer (instr_at p k w.at) w.stage (u.far k)) (sym same) h
 
 -- one rank, and the others
-pub by_number : (P : ℕ → Type 0) (r : ℕ) → P r → ((k : ℕ) → k ≢ r → P k) → (k : ℕ) → P k
-by_number P r here others k = elim (cases_eq k r) [ inl same ↦ subst P (sym same) here | inr other ↦ others k other ]
-
 -- all ranks, and those that there are not
 pub record IsFarAll (p : Programs) (u : Tables) : Type 0 where
   pub well : (k : ℕ) → IsFarWell p u k

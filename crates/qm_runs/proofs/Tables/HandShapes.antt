@@ -20,14 +20,14 @@ use Rattle.qm_proto.specs.Model.Acts.{list_of, done, all_done}
 use Rattle.qm_proto.specs.Model.Rows.{instr_at, current, rows, letter, few_if}
 use Rattle.qm_proto.specs.Model.Places.{FarOf}
 use Rattle.qm_proto.specs.Model.Tidy.{IsTidy, IsInHand, Carries, IsCarried}
-use Rattle.qm_proto.proofs.Changes.{with_at-here, with_at-elsewhere}
+use Rattle.qm_proto.proofs.Changes.{with_at-here, with_at-elsewhere, by_number}
 use Rattle.qm_proto.proofs.Positions.{all_stage_kept}
 use Rattle.qm_proto.proofs.TidyActs.{far_made_absent, received_in_hand}
 use Rattle.qm_proto.proofs.TidyChanges.{stays_more}
 use Rattle.qm_proto.proofs.TidyLanes.{carried_before_push, carried_before_fill, carried_before_take}
 use Rattle.qm_runs.specs.Tables.Well.{keeps_half, IsLaneWell}
 use Rattle.qm_runs.proofs.Tables.NextEvents.{IsNext, event_done, part_on, part_elsewhere, stage_on, stage_ended}
-use Rattle.qm_runs.proofs.Tables.FarSteps.{front_wire, by_number}
+use Rattle.qm_runs.proofs.Tables.FarSteps.{front_wire}
 use Rattle.qm_runs.proofs.Tables.LaneShapes.{LaneCase, Still, Puts, Tells, Takes, lanes_by, IsLaneCase, lane_case}
 use Rattle.qm_runs.proofs.Tables.Lines.{EachFrom, at_stage}
 

@@ -29,7 +29,7 @@ use Rattle.qm_proto.proofs.Changes.{by_lane, with_lane-elsewhere}
 use Rattle.qm_runs.specs.Tables.Well.{middle_of, has_posted, is_open, is_half, IsLaneSound, IsLaneWell}
 use Rattle.qm_runs.proofs.Tables.NextEvents.{IsNext, event_done, stage_on, stage_ended}
 use Rattle.qm_runs.proofs.Tables.LaneSteps.{HasWire, length-filled, fillable_push, fillable_drop, wired_filled, lane_by, by_sender, own_lane, other_lane, other_lane_same}
-use Rattle.qm_runs.proofs.Tables.Lines.{EachFrom, at_stage}
+use Rattle.qm_runs.proofs.Tables.Lines.{EachFrom, at_stage, never}
 
 -- ---- what an event does to lanes
 pub data LaneCase : Type 0 where
@@ -108,9 +108,6 @@ module _ (p : Programs) (t : Tables) (r : ℕ) where
   told_new m w e = cc
 
   -- an instruction that ends has nothing open
-  ended : {A : Type 0} → false ≡ true → A
-  ended e = cc
-
   table : (i : Instr) → EachFrom (DoesToLanes p t r i) 0 (rows p t r i)
   table (instr.Alloc q) = (still refl refl refl, tt)
   table (instr.Free q) = (still refl refl refl, tt)
@@ -120,7 +117,7 @@ module _ (p : Programs) (t : Tables) (r : ℕ) where
   table (instr.Xor b c) = (still refl refl refl, tt)
   table (instr.When b g) = (still (lanes_if r (bit_of t r b) (gate_letter (wire_in t r) g) t) refl refl, tt)
   table (instr.SendBit b to tag) =
-      (puts (lane r to kind.Bit tag) (told (bit_of t r b)) refl (refl, refl, refl, refl, (λ e. ended e), (λ e. cc), told_new (bit_of t r b)), tt)
+      (puts (lane r to kind.Bit tag) (told (bit_of t r b)) refl (refl, refl, refl, refl, (λ e. never e), (λ e. cc), told_new (bit_of t r b)), tt)
   table (instr.RecvBit b from tag) = (takes (lane from r kind.Bit tag) refl (refl, refl, refl, refl, refl), tt)
   table (instr.CopyTo q to tag) =
       let a = lane r to kind.Copy tag in (
@@ -131,7 +128,7 @@ module _ (p : Programs) (t : Tables) (r : ℕ) where
       let x = (t.parts r).taken in
       (takes (lane from r kind.Copy tag) refl (refl, refl, refl, refl, refl), (still (lanes_if r (first_bit x) (Flip (wire_of x)) t) refl refl, tt))
   table (instr.UndoTo q to tag) =
-      (still refl refl refl, (puts (lane r to kind.Undo tag) (told (protocol_next t r)) refl (refl, refl, refl, refl, (λ e. ended e), (λ e. cc), told_new (protocol_next t r)), tt))
+      (still refl refl refl, (puts (lane r to kind.Undo tag) (told (protocol_next t r)) refl (refl, refl, refl, refl, (λ e. never e), (λ e. cc), told_new (protocol_next t r)), tt))
   table (instr.UndoFrom q from tag) = (
     takes (lane from r kind.Undo tag) refl (refl, refl, refl, refl, refl),
     (still (lanes_if r (first_bit (t.parts r).taken) (Phase 4 (wire_in t r q)) t) refl refl, tt),
@@ -181,7 +178,7 @@ module _ (p : Programs) (t : Tables) (r : ℕ) where
             still refl refl refl,
             (
               still refl refl refl,
-              (puts (lane r from kind.Back tag) (told (protocol_next t r)) refl (refl, refl, refl, refl, (λ e. ended e), (λ e. cc), told_new (protocol_next t r)), tt),
+              (puts (lane r from kind.Back tag) (told (protocol_next t r)) refl (refl, refl, refl, refl, (λ e. never e), (λ e. cc), told_new (protocol_next t r)), tt),
             ),
           ),
         ),

@@ -1,5 +1,5 @@
 -- What is so of each line of an instruction is so of the one at which a rank stands
-use Rattle.std.proofs.Common.{◌≡◌, ℕ, zero, suc, ◌+◌, ◌<◌, List, [], ◌∷◌, length, Some, slice_get, refl, subst, arith}
+use Rattle.std.proofs.Common.{◌≡◌, ℕ, zero, suc, ◌+◌, ◌<◌, true, false, List, [], ◌∷◌, length, Some, slice_get, refl, subst, arith}
 use Rattle.qm_instr.specs.declared.Instr.{Instr}
 use Rattle.qm_instr.specs.declared.Instr.TheVariants as instr
 use Rattle.qm_instr.specs.Counts.{events_of}
@@ -38,3 +38,7 @@ rows_count p t r _ = refl
 pub some_events : (i : Instr) → 0 < events_of i
 some_events (instr.Alloc q) = omega arith
 some_events _ = omega arith
+
+-- a case that there isn't
+pub never : {A : Type 0} → false ≡ true → A
+never e = cc

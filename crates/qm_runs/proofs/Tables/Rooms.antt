@@ -13,7 +13,9 @@ use Rattle.qm_proto.specs.Model.Runs.{halves}
 use Rattle.qm_proto.specs.Model.Places.{InSlot, NearOf, FarOf, IsPlaced}
 use Rattle.qm_runs.specs.Tables.Rooms.{IsRoomy}
 use Rattle.qm_runs.specs.Tables.Well.{AreCounted}
-use Rattle.qm_runs.proofs.Tables.Sums.{same_or_below, sum_below, sum_by-is_below}
+use Rattle.qm_runs.proofs.Tables.Sums.{sum_by-is_below}
+use Rattle.qm_proto.proofs.Meetings.{same_or_below}
+use Rattle.qm_runs.specs.Tables.Totals.{sum_below}
 
 -- ---- at most so many wires are as P says
 -- distinct wires that are as P says are n at most

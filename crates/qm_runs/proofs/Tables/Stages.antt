@@ -11,9 +11,9 @@ use Rattle.qm_proto.specs.Model.Runs.{next_tables}
 use Rattle.qm_proto.specs.Model.Schedules.{replay, IsLegal}
 use Rattle.qm_proto.specs.Model.State.{Part, Tables}
 use Rattle.qm_proto.proofs.Replays.{over_legal}
-use Rattle.qm_runs.proofs.Tables.FarSteps.{by_number}
 use Rattle.qm_runs.proofs.Tables.Lines.{some_events}
 use Rattle.qm_runs.proofs.Tables.NextEvents.{IsLineNext, line_next, line_is, event_done, stage_on, stage_ended, part_elsewhere}
+use Rattle.qm_proto.proofs.Changes.{by_number}
 
 abbrev pub IsWithin : Programs → Tables → ℕ → Type 0
 IsWithin p t r = (i : Instr) → current p t r ≡ Some i → (t.parts r).stage < events_of i

@@ -36,10 +36,11 @@ use Rattle.qm_runs.proofs.Tables.RankShapes.{rank_event}
 use Rattle.qm_runs.proofs.Tables.LaneSteps.{HasWire}
 use Rattle.qm_runs.proofs.Tables.LaneShapes.{lanes_event}
 use Rattle.qm_runs.proofs.Tables.HandShapes.{IsHeld, held_event}
-use Rattle.qm_runs.proofs.Tables.FarSteps.{IsFarAll, by_number}
+use Rattle.qm_runs.proofs.Tables.FarSteps.{IsFarAll}
 use Rattle.qm_runs.proofs.Tables.FarShapes.{far_event}
 use Rattle.qm_runs.proofs.Tables.TidyShapes.{keeps_tidy, tidy_after}
 use Rattle.qm_runs.proofs.Tables.HeldCounts.{counts_event}
+use Rattle.qm_proto.proofs.Changes.{by_number}
 
 -- ---- before the first event
 some_buffer : (p : Programs) (r : ℕ) → IsInRange p → 0 < (rank_of p r).buffer

@@ -27,7 +27,7 @@ use Rattle.qm_runs.proofs.Tables.FarSteps.{front_wire}
 use Rattle.qm_runs.proofs.Tables.Lines.{EachFrom, at_stage}
 
 -- a rank that moves on counts no wire
-moved_made : (n : ℕ) (x : Part) → (moved_on n x).made ≡ x.made
+pub moved_made : (n : ℕ) (x : Part) → (moved_on n x).made ≡ x.made
 moved_made n x = by_test (nat_lt (x.stage + 1) n)
   where
     by_test : (b : Bool) → (cond b (record x { stage = x.stage + 1 }) (record x { at = x.at + 1; stage = 0 })).made ≡ x.made

@@ -1,5 +1,5 @@
 -- An ideal step whose deciding event takes a protocol outcome keeps the weight and the halvings of the ideal circuit
-use Rattle.std.proofs.Common.{◌≡◌, ◌≢◌, ℕ, Bool, true, false, List, [], ◌∷◌, ◌++◌, Some, slice_get, refl, sym, ap, subst, ◌∙◌, append_assoc, arith}
+use Rattle.std.proofs.Common.{◌≡◌, ◌≢◌, ℕ, false, List, [], ◌∷◌, ◌++◌, Some, slice_get, refl, sym, ap, subst, ◌∙◌, append_assoc, arith}
 use Rattle.std.proofs.lemmas.List.{append-nil}
 use Rattle.qm_denot.specs.declared.Letter.{Letter}
 use Rattle.qm_denot.specs.declared.Letter.TheVariants.{Phase, Flip, Cx, Take, Rename}
@@ -20,7 +20,7 @@ use Rattle.qm_check.specs.Checks.{IsReady}
 use Rattle.qm_proto.specs.declared.Row.{Row}
 use Rattle.qm_proto.specs.Model.Acts.{list_of}
 use Rattle.qm_proto.specs.Model.Ideal.{ideal_made, ideal_offered}
-use Rattle.qm_proto.specs.Model.Rows.{rows, letter, few_if, gate_letter, source_wire}
+use Rattle.qm_proto.specs.Model.Rows.{rows, gate_letter, source_wire}
 use Rattle.qm_proto.specs.Model.State.{Tables, wire_in, wire_of, bit_of, first_bit, second_bit}
 use Rattle.qm_runs.specs.Following.Deciding.{outcomes}
 use Rattle.qm_runs.specs.Following.Debts.{Message}
@@ -30,16 +30,12 @@ use Rattle.qm_runs.proofs.Following.Agreeing.{giving}
 use Rattle.qm_runs.proofs.Following.Deeds.{ideal_letters}
 use Rattle.qm_runs.proofs.Following.Givings.{offered_seen}
 use Rattle.qm_runs.proofs.Following.IdealWires.{blank_where}
-use Rattle.qm_runs.proofs.Following.Places.{before_event}
+use Rattle.qm_runs.proofs.Following.Places.{before_event, letters_none_used}
 use Rattle.qm_runs.proofs.Following.Stood.{IsStood}
 use Rattle.qm_runs.proofs.Tables.Lines.{EachFrom, at_stage}
 use Rattle.qm_runs.proofs.Tables.NextEvents.{IsNext}
 
 -- letters that are done or not take no outcome
-pub none_if : (b : Bool) (l : Letter) → outcomes (list_of (few_if b (letter l))) ≡ 0
-none_if true l = refl
-none_if false l = refl
-
 module _ (p : Programs) (ready : IsReady p) (ranges : IsInRange p) (t : Tables) (r : ℕ) (stood : IsStood p t)
     (n : ℕ) (g c : Circuit) (ds : Tagged Message) (before : Follows p t n g c ds) where
   -- the letters keep the weight and the halvings of the ideal circuit
@@ -100,7 +96,7 @@ module _ (p : Programs) (ready : IsReady p) (ranges : IsInRange p) (t : Tables) 
   table (instr.Measure q b) = (without refl, tt)
   table (instr.Set b v) = (without refl, tt)
   table (instr.Xor b c) = (without refl, tt)
-  table (instr.When b g) = (without (none_if (bit_of t r b) (gate_letter (wire_in t r) g)), tt)
+  table (instr.When b g) = (without (letters_none_used (bit_of t r b) (gate_letter (wire_in t r) g)), tt)
   table (instr.SendBit b to tag) = (without refl, tt)
   table (instr.RecvBit b from tag) = (without refl, tt)
   table (instr.CopyTo q to tag) = (
@@ -110,9 +106,9 @@ module _ (p : Programs) (ready : IsReady p) (ranges : IsInRange p) (t : Tables) 
       (crosses (wire_in t r q) (ideal_made (tables_seen p t) r) refl, tt),
     ),
   )
-  table (instr.CopyFrom q from tag) = let x = (t.parts r).taken in (without refl, (without (none_if (first_bit x) (Flip (wire_of x))), tt))
+  table (instr.CopyFrom q from tag) = let x = (t.parts r).taken in (without refl, (without (letters_none_used (first_bit x) (Flip (wire_of x))), tt))
   table (instr.UndoTo q to tag) = (without refl, (record { keeps = λ next e proper. keeps_uncopy q to tag next proper }, tt))
-  table (instr.UndoFrom q from tag) = (without refl, (without (none_if (first_bit (t.parts r).taken) (Phase 4 (wire_in t r q))), tt))
+  table (instr.UndoFrom q from tag) = (without refl, (without (letters_none_used (first_bit (t.parts r).taken) (Phase 4 (wire_in t r q))), tt))
   table (instr.MoveTo q to tag) = (
     without refl,
     (
@@ -128,7 +124,7 @@ module _ (p : Programs) (ready : IsReady p) (ranges : IsInRange p) (t : Tables) 
   )
   table (instr.MoveFrom q from tag) =
       let x = (t.parts r).taken in
-      (without refl, (without (none_if (first_bit x) (Flip (wire_of x))), (without (none_if (second_bit x) (Phase 4 (wire_of x))), tt)))
+      (without refl, (without (letters_none_used (first_bit x) (Flip (wire_of x))), (without (letters_none_used (second_bit x) (Phase 4 (wire_of x))), tt)))
   table (instr.ReachTo q to tag) = (
     without refl,
     (
@@ -137,7 +133,7 @@ module _ (p : Programs) (ready : IsReady p) (ranges : IsInRange p) (t : Tables) 
         quiet refl,
         (
           without refl,
-          (without (none_if (first_bit (t.parts r).taken) (Phase 4 (wire_in t r q))), tt),
+          (without (letters_none_used (first_bit (t.parts r).taken) (Phase 4 (wire_in t r q))), tt),
         ),
       ),
     ),
@@ -146,7 +142,7 @@ module _ (p : Programs) (ready : IsReady p) (ranges : IsInRange p) (t : Tables) 
       let x = (t.parts r).taken in (
         without refl,
         (
-          without (none_if (first_bit x) (Flip (wire_of x))),
+          without (letters_none_used (first_bit x) (Flip (wire_of x))),
           (
             without refl,
             (

@@ -22,7 +22,7 @@ use Rattle.qm_runs.specs.Following.Seen.{part_seen, tables_seen}
 use Rattle.qm_runs.proofs.Tables.Lines.{EachFrom, at_stage}
 use Rattle.qm_runs.proofs.Tables.NextEvents.{IsNext}
 use Rattle.qm_runs.proofs.Following.Deeds.{ideal_letters}
-use Rattle.qm_runs.proofs.Weighing.IdealWeights.{none_if}
+use Rattle.qm_runs.proofs.Following.Places.{letters_none_used}
 
 -- ---- along a schedule
 module _ (p : Programs) where
@@ -121,13 +121,13 @@ module _ (p : Programs) (t : Tables) (r : ℕ) where
   table (instr.Measure q b) = (without refl, tt)
   table (instr.Set b v) = (without refl, tt)
   table (instr.Xor b c) = (without refl, tt)
-  table (instr.When b g) = (without (none_if (bit_of t r b) (gate_letter (wire_in t r) g)), tt)
+  table (instr.When b g) = (without (letters_none_used (bit_of t r b) (gate_letter (wire_in t r) g)), tt)
   table (instr.SendBit b to tag) = (without refl, tt)
   table (instr.RecvBit b from tag) = (without refl, tt)
   table (instr.CopyTo q to tag) = (without refl, (without refl, (takes near_now (protocol_next t r) refl, tt)))
-  table (instr.CopyFrom q from tag) = let x = (t.parts r).taken in (without refl, (without (none_if (first_bit x) (Flip (wire_of x))), tt))
+  table (instr.CopyFrom q from tag) = let x = (t.parts r).taken in (without refl, (without (letters_none_used (first_bit x) (Flip (wire_of x))), tt))
   table (instr.UndoTo q to tag) = (without refl, (takes (wire_in t r q) (protocol_next t r) refl, tt))
-  table (instr.UndoFrom q from tag) = (without refl, (without (none_if (first_bit (t.parts r).taken) (Phase 4 (wire_in t r q))), tt))
+  table (instr.UndoFrom q from tag) = (without refl, (without (letters_none_used (first_bit (t.parts r).taken) (Phase 4 (wire_in t r q))), tt))
   table (instr.MoveTo q to tag) = (
     without refl,
     (
@@ -143,7 +143,7 @@ module _ (p : Programs) (t : Tables) (r : ℕ) where
   )
   table (instr.MoveFrom q from tag) =
       let x = (t.parts r).taken in
-      (without refl, (without (none_if (first_bit x) (Flip (wire_of x))), (without (none_if (second_bit x) (Phase 4 (wire_of x))), tt)))
+      (without refl, (without (letters_none_used (first_bit x) (Flip (wire_of x))), (without (letters_none_used (second_bit x) (Phase 4 (wire_of x))), tt)))
   table (instr.ReachTo q to tag) = (
     without refl,
     (
@@ -152,7 +152,7 @@ module _ (p : Programs) (t : Tables) (r : ℕ) where
         takes near_now (protocol_next t r) refl,
         (
           without refl,
-          (without (none_if (first_bit (t.parts r).taken) (Phase 4 (wire_in t r q))), tt),
+          (without (letters_none_used (first_bit (t.parts r).taken) (Phase 4 (wire_in t r q))), tt),
         ),
       ),
     ),
@@ -161,7 +161,7 @@ module _ (p : Programs) (t : Tables) (r : ℕ) where
       let x = (t.parts r).taken in (
         without refl,
         (
-          without (none_if (first_bit x) (Flip (wire_of x))),
+          without (letters_none_used (first_bit x) (Flip (wire_of x))),
           (
             without refl,
             (

@@ -28,8 +28,8 @@ pub record FollowsItsIdeal (p : Programs) (schedule : List ℕ) : Type 0 where
       (let x = replay p schedule in
       Follows p x.tables (outcomes_done p schedule) x.circuit (ideal_replay p (ideal_of p schedule)).circuit debts)
   pub ranks : (r : ℕ) → (((replay p schedule).tables.parts r).stage ≡ 0) → IsSameRank p schedule r
-  pub apart : (a b : Message × Letter) (w : Wire) → Contains debts a → Contains debts b → Contains (operands a.1) w → Contains (operands b.1) w
-      → a.0 ≡ b.0
+  pub apart : (a b : Message × Letter) (w : Wire) → Contains debts a → Contains debts b
+      → Contains (operands a.1) w → Contains (operands b.1) w → a.0 ≡ b.0
   pub untouched : (a : Message × Letter) (w : Wire) (r : ℕ) → (let t = (replay p schedule).tables in
       Contains debts a → Contains (operands a.1) w → enabled p t r ≡ true → event_message t r (current p t r) ≢ a.0 → ¬ Touches p t r w)
 

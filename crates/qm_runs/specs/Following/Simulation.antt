@@ -32,8 +32,8 @@ abbrev pub message_from : Option Message → Message
 message_from None = NoMessage
 message_from (Some k) = k
 
--- the message of a rank's first event of an instruction: a send's is named by the wire that it is about to count, a receive's by the half at
--- the front of its lane
+-- the message of a rank's first event of an instruction: a send's is named by the wire that it is about to count, a receive's by the
+-- half at the front of its lane
 abbrev pub message_begun : Tables → ℕ → Instr → Option Message
 message_begun t r (instr.CopyTo q to tag) = Some (ByPair r (t.parts r).made)
 message_begun t r (instr.MoveTo q to tag) = Some (ByPair r (t.parts r).made)
@@ -151,7 +151,8 @@ pub record Simulates (p : Programs) (schedule : List ℕ) : Type 0 where
       ((ideal_replay p (ideal_of p schedule)).circuit ++ letters_of (x.begun ++ x.pending)))
   pub ranks : (r : ℕ) → (((replay p schedule).tables.parts r).stage ≡ 0) → IsSameRank p schedule r
   pub apart : (a b : Message × Letter) (w : Wire) → (let x = progress p schedule in
-      Contains (x.begun ++ x.pending) a → Contains (x.begun ++ x.pending) b → Contains (operands a.1) w → Contains (operands b.1) w → a.0 ≡ b.0)
+      Contains (x.begun ++ x.pending) a → Contains (x.begun ++ x.pending) b
+      → Contains (operands a.1) w → Contains (operands b.1) w → a.0 ≡ b.0)
   pub untouched : (a : Message × Letter) (w : Wire) (r : ℕ) → (let x = progress p schedule in let t = (replay p schedule).tables in
       Contains (x.begun ++ x.pending) a → Contains (operands a.1) w → enabled p t r ≡ true
       → event_message t r (current p t r) ≢ a.0 → ¬ Touches p t r w)

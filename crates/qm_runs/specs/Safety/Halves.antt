@@ -53,4 +53,5 @@ pub record HasFewHalves (p : Programs) (t : Tables) (r : ℕ) : Type 0 where
 
 -- in every state of every legal schedule, for each rank
 abbrev pub HalvesLaw : Type 0
-HalvesLaw = (p : Programs) (schedule : List ℕ) → IsLegalRun p schedule → (r : ℕ) → r < length p.ranks → HasFewHalves p (replay p schedule).tables r
+HalvesLaw =
+    (p : Programs) (schedule : List ℕ) → IsLegalRun p schedule → (r : ℕ) → r < length p.ranks → HasFewHalves p (replay p schedule).tables r

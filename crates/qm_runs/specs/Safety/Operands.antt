@@ -66,4 +66,5 @@ pub record FindsAll (p : Programs) (t : Tables) (r : ℕ) : Type 0 where
 
 -- in every state of every legal schedule each rank finds all that its next event needs
 abbrev pub OperandsLaw : Type 0
-OperandsLaw = (p : Programs) (schedule : List ℕ) → IsLegalRun p schedule → (r : ℕ) → r < length p.ranks → FindsAll p (replay p schedule).tables r
+OperandsLaw =
+    (p : Programs) (schedule : List ℕ) → IsLegalRun p schedule → (r : ℕ) → r < length p.ranks → FindsAll p (replay p schedule).tables r

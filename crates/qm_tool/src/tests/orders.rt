@@ -17,17 +17,17 @@ use std::test::Fail;
 
 /// A program but for the size of its buffers and its protocol tapes.
 #[derive(Clone, Copy)]
-struct Program {
+pub(super) struct Program {
     /// The text before the size of the buffers.
-    head: &'static str,
+    pub(super) head: &'static str,
     /// The ranks' blocks, and their own tapes.
-    body: &'static str,
+    pub(super) body: &'static str,
     /// How many protocol outcomes each rank takes.
-    taken: [u8; 4],
+    pub(super) taken: [u8; 4],
 }
 
-/// The protocol tapes of a program that are tried: those of the numbers below this one.
-const MOST_TAPES: u32 = 64;
+/// No program here has more protocol tapes.
+const MOST_TAPES: u32 = 256;
 
 /// Twelve programs whose measured bits can be, and whose uncopies and frees are lawful in every order.
 fn programs() -> [Program; 12] {
@@ -115,7 +115,7 @@ fn push_tape(text: &mut Vec<u8>, rank: u64, bits: u8, number: u32) -> Result<(),
 }
 
 /// The text of a program with buffers of this size, and with the bits of a number as its protocol tapes.
-fn text_of(
+pub(super) fn text_of(
     alloc: Global,
     program: &Program,
     buffer: u64,
@@ -140,8 +140,8 @@ fn text_of(
     Ok(text)
 }
 
-/// How many protocol tapes of a program are tried.
-fn tapes_of(program: &Program) -> u32 {
+/// How many protocol tapes a program may have.
+pub(super) fn tapes_of(program: &Program) -> u32 {
     let mut tapes = 1u32;
     for bits in program.taken {
         for _ in 0..bits {
@@ -162,7 +162,11 @@ fn numbered(alloc: Global, name: &str, number: u64) -> Result<Vec<String>, Alloc
 }
 
 /// The exit status of a command over a text, and what it wrote.
-fn run(alloc: Global, words: &[String], text: Vec<u8>) -> Result<(u8, Vec<u8>), AllocError> {
+pub(super) fn run(
+    alloc: Global,
+    words: &[String],
+    text: Vec<u8>,
+) -> Result<(u8, Vec<u8>), AllocError> {
     let mut source = SureSource::start(text, 4_096);
     let mut sink = MemSink::start(alloc, 4_096, Vec::new(alloc), 4_096)?;
     let status = tool_plain(alloc, words, &mut source, &mut sink);
@@ -265,6 +269,29 @@ fn no_rank_holds_more_halves_than_its_buffer(rt: HostRuntime) -> Result<(), Fail
                 );
             }
         }
+    }
+    Ok(())
+}
+
+/// Two ranks send five copies each to the third, which measures each and gives it up. Its buffer fills up, whatever its size.
+const FILLING: Program = Program {
+    head: "qmpi 1 ranks 3 qubits 2 buffer",
+    body: "rank 0 alloc 0 h 0 for i in 0..5 { copyto 0 2 i } end rank 1 alloc 0 h 0 for i in 0..5 { copyto 0 2 i } end rank 2 for i in 0..5 { copyfrom 0 0 i copyfrom 1 1 i measure 0 0 measure 1 1 free 0 free 1 } end own 2 b0000000000",
+    taken: [5, 5, 0, 0],
+};
+
+#[test]
+fn a_buffer_fills_up_and_no_more(rt: HostRuntime) -> Result<(), Fail> {
+    for buffer in 1..5u32 {
+        let text = text_of(rt.alloc(), &FILLING, u64::from(buffer), 341)?;
+        let mut most = 0;
+        for seed in 0..20 {
+            let mut machine = machine_of(&rt, rt.alloc(), &text)?;
+            let held = most_ever_held(&mut machine, seed);
+            assert!(rt; held.is_some(), "buffers of {buffer}, seed {seed}");
+            most = most.max(held.unwrap_or(0));
+        }
+        assert_eq!(rt; most, buffer);
     }
     Ok(())
 }

@@ -1,13 +1,12 @@
 use Rattle.std.proofs.Common.{◌≡◌, ◌≤◌, drop, length}
-use Rattle.qm_lex.specs.Lexing.{token_list}
-use Rattle.qm_expand.specs.Walk.{bytes_in, gathered, gathered_all}
-use Rattle.qm_expand.specs.Views.{names_in, scope_of, operands_seen}
+use Rattle.qm_expand.specs.Walk.{gathered, gathered_all}
+use Rattle.qm_expand.specs.Views.{words_of, scope_in, operands_seen}
 use Rattle.qm_expand.proofs.operands.gather.Given as goal
 
 abbrev pub invariant-loop-k : goal.invariant-loop-k
 invariant-loop-k l =
-    let bytes = bytes_in l.text (token_list l.tokens) in
-    let s = scope_of l.scope (names_in l.text (token_list l.tokens) l.names) in
+    let bytes = words_of l.context in
+    let s = scope_in l.context in
     record {
       used : l.found.used ≤ length l.nodes;
       kinds : length l.kinds ≡ 4;

@@ -2,18 +2,17 @@ use Rattle.std.proofs.Common.{◌∙◌, ap, sym, subst, ◌∷◌, reverse, rul
 use mir.Val.{SFits}
 use mir.Syntax.{w64}
 use Rattle.std.proofs.lemmas.Int.{to_z-of_z}
-use Rattle.qm_lex.specs.Lexing.{token_list}
 use Rattle.qm_expand.specs.Values.{computed}
-use Rattle.qm_expand.specs.Walk.{Answers, bytes_in, on_two}
-use Rattle.qm_expand.specs.Views.{scope_of, names_in, IsPushed}
+use Rattle.qm_expand.specs.Walk.{Answers, on_two}
+use Rattle.qm_expand.specs.Views.{words_of, scope_in, IsPushed}
 use Rattle.qm_expand.proofs.StackLemmas.{IsPushed-from, reverse_push, pushed-op}
 use Rattle.qm_expand.proofs.values.node_value.Goals as goal
 
 pub returns-in-Some-pop-2 : goal.returns-in-Some-pop-2
 returns-in-Some-pop-2 c =
     let n = c.args.node in
-    let bytes = bytes_in c.args.text.now (token_list c.args.tokens.now) in
-    let s = scope_of c.args.scope (names_in c.args.text.now (token_list c.args.tokens.now) c.args.names.now) in
+    let bytes = words_of c.args.context.now in
+    let s = scope_in c.args.context.now in
     let old = c.args.stack.now.items in
     let mid = c.pop.new.self.items in
     let new = c.pop-in-Some-pop.new.self.items in

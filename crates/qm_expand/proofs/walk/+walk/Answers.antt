@@ -1,15 +1,14 @@
-use Rattle.std.proofs.Common.{◌≡◌, ◌∙◌, ◌+◌, ◌-◌, ◌≤◌, ◌<◌, ◌+ℤ◌, pos, ◌∷◌, Ok, length, drop, sym, ap, refl, arith, rules, length-take, length-drop}
+use Rattle.std.proofs.Common.{◌≡◌, ◌∙◌, ◌+◌, ◌-◌, ◌≤◌, ◌<◌, ◌+ℤ◌, pos, ◌∷◌, Ok, length, drop, sym, ap, subst, refl, arith, rules, length-take, length-drop}
 use Rattle.std.proofs.lemmas.List.{nil_from_length}
+use Rattle.qm_expand.specs.Steps.{Outcome, ◌>>=◌}
 use Rattle.qm_lex.specs.Lexing.{token_list}
-use Rattle.qm_expand.specs.Steps.{◌>>=◌}
-use Rattle.qm_expand.specs.Reading.{lines_of}
-use Rattle.qm_expand.specs.declared.values.Binding.{Binding}
-use Rattle.qm_expand.specs.Drafts.{with_turn}
+use Rattle.qm_expand.specs.Values.{Scope}
+use Rattle.qm_expand.specs.Drafts.{Draft, with_turn}
 use Rattle.qm_expand.specs.Expansion.{turn_count, inside, each_turn}
-use Rattle.qm_expand.specs.Walk.{Valued, bytes_in, walk}
-use Rattle.qm_expand.specs.Views.{names_in, scope_of, draft_seen, value_seen}
+use Rattle.qm_expand.specs.Walk.{Valued, Answers, walk}
+use Rattle.qm_expand.specs.Views.{words_of, word_lines, scope_in, draft_seen, value_seen}
 use Rattle.qm_expand.proofs.DraftLemmas.{Answers-exit}
-use Rattle.qm_expand.proofs.WalkLemmas.{walk-step, walk-nil, looped-at, turned-body, scope_inside, each_turn-more, each_turn-none, same_Ok}
+use Rattle.qm_expand.proofs.WalkLemmas.{walk-step, walk-nil, looped-at, inner-fits, scope_inside, turns-next, each_turn-none, same_Ok}
 use Rattle.qm_expand.proofs.walk.+walk.Goals as goal
 
 pub body-step-requires : goal.body-step-requires
@@ -25,9 +24,9 @@ body-step-requires t c =
 
 pub body-returns-in_err-step-clause-answers : goal.body-returns-in_err-step-clause-answers
 body-returns-in_err-step-clause-answers t c = λ n h.
-    let bytes = bytes_in c.args.text.now (token_list c.args.tokens.now) in
-    let lines = lines_of (token_list c.args.tokens.now) in
-    let s = scope_of c.args.scope (names_in c.args.text.now (token_list c.args.tokens.now) c.args.names.now) in
+    let bytes = words_of c.args.context.now in
+    let lines = word_lines c.args.context.now in
+    let s = scope_in c.args.context.now in
     let node = c.first_of-node.result in
     let behind = c.after-behind.result.now in
     let len = c.own_len-len.result in
@@ -39,9 +38,9 @@ body-returns-in_err-step-clause-answers t c = λ n h.
 
 pub body-loop-rest-preserved : goal.body-loop-rest-preserved
 body-loop-rest-preserved t c =
-    let bytes = bytes_in c.args.text.now (token_list c.args.tokens.now) in
-    let lines = lines_of (token_list c.args.tokens.now) in
-    let s = scope_of c.args.scope (names_in c.args.text.now (token_list c.args.tokens.now) c.args.names.now) in
+    let bytes = words_of c.args.context.now in
+    let lines = word_lines c.args.context.now in
+    let s = scope_in c.args.context.now in
     let node = c.first_of-node.result in
     let behind = c.after-behind.result.now in
     let next = c.after-rest.result.now in
@@ -68,116 +67,85 @@ body-loop-rest-preserved t c =
 
 pub body-returns-clause-answers : goal.body-returns-clause-answers
 body-returns-clause-answers t c = λ n h.
-    let bytes = bytes_in c.args.text.now (token_list c.args.tokens.now) in
-    let lines = lines_of (token_list c.args.tokens.now) in
-    let s = scope_of c.args.scope (names_in c.args.text.now (token_list c.args.tokens.now) c.args.names.now) in
+    let bytes = words_of c.args.context.now in
+    let lines = word_lines c.args.context.now in
+    let s = scope_in c.args.context.now in
     let old = c.loop-rest.invariant.walked n h in
     let none = nil_from_length c.loop-rest.rest.now (search rules) in
     sym old.2 ∙ ap (λ xs. walk bytes lines old.0 s c.loop-rest.at xs (draft_seen c.loop-rest.draft)) none ∙ walk-nil bytes lines old.0 s c.loop-rest.at (draft_seen c.loop-rest.draft)
 
 pub turn_loop-returns-in_err-turn-clause-answers : goal.turn_loop-returns-in_err-turn-clause-answers
 turn_loop-returns-in_err-turn-clause-answers t c = λ n h.
-    let text = c.args.text.now in
-    let tokens = token_list c.args.tokens.now in
-    let bytes = bytes_in text tokens in
-    let lines = lines_of tokens in
-    let s = scope_of c.args.scope (names_in text tokens c.args.names.now) in
+    let bytes = words_of c.args.context.now in
+    let lines = word_lines c.args.context.now in
+    let s = scope_in c.args.context.now in
     let node = c.args.node in
-    let own = c.args.own.now in
     let line = c.line-line.result in
     let a : Valued = value_seen c.in_ok-first.first in
     let b : Valued = value_seen c.in_ok-end.end in
-    let start = c.args.number + a.used + b.used in
     let inner = c.after-inner.result.now in
-    let k = c.loop-k.k in
     let count = turn_count a.value b.value in
-    let whole = looped-at bytes lines (walk bytes lines n) s c.args.number node own c.after-rest.result.now inner (draft_seen c.args.draft.now) a b line
+    let whole = looped-at bytes lines (walk bytes lines n) s c.args.number node c.args.own.now c.after-rest.result.now inner (draft_seen c.args.draft.now) a b line
     c.line-line.ensures c.after-rest.ensures c.after-inner.ensures c.in_ok-first.ensures.answers c.in_ok-end.ensures.answers in
-    let low : k < count = let m = c.turn_count-k-end.ensures in omega (arith, c.loop-k-test.true) in
-    Answers-exit _ _ _ _ _ _ c.from_residual-in_err-turn.ensures.1 c.in_err-turn.ensures.answers
+    let fits = inner-fits n a.used b.used c.args.own.now c.after-rest.result.now inner c.after-rest.ensures c.after-inner.ensures h in
+    let low : c.loop-k.k < count = let m = c.turn_count-k-end.ensures in omega (arith, c.loop-k-test.true) in
+    Answers-exit _ _ _ _ _ _ c.from_residual-in_err-turn.ensures.1 (c.in_err-turn.ensures.answers n fits)
     (whole ∙ sym (c.loop-k.invariant.turned n h)
-    ∙ each_turn-more line (λ i e. walk bytes lines n (inside s (bytes (node.token + 1)) i) start inner e) count k a.value (draft_seen c.loop-k.draft) low)
-
-pub turn_loop-returns-in_err-body-clause-answers : goal.turn_loop-returns-in_err-body-clause-answers
-turn_loop-returns-in_err-body-clause-answers t c = λ n h.
-    let text = c.args.text.now in
-    let tokens = token_list c.args.tokens.now in
-    let bytes = bytes_in text tokens in
-    let lines = lines_of tokens in
-    let s = scope_of c.args.scope (names_in text tokens c.args.names.now) in
-    let node = c.args.node in
-    let own = c.args.own.now in
-    let line = c.line-line.result in
-    let a : Valued = value_seen c.in_ok-first.first in
-    let b : Valued = value_seen c.in_ok-end.end in
-    let start = c.args.number + a.used + b.used in
-    let inner = c.after-inner.result.now in
-    let k = c.loop-k.k in
-    let count = turn_count a.value b.value in
-    let whole = looped-at bytes lines (walk bytes lines n) s c.args.number node own c.after-rest.result.now inner (draft_seen c.args.draft.now) a b line
-    c.line-line.ensures c.after-rest.ensures c.after-inner.ensures c.in_ok-first.ensures.answers c.in_ok-end.ensures.answers in
-    let low : k < count = let m = c.turn_count-k-end.ensures in omega (arith, c.loop-k-test.true) in
-    let turned : with_turn line (draft_seen c.loop-k.draft) ≡ Ok (draft_seen c.turn.new.self) = c.in_ok-turn.ensures.answers in
-    let items = c.as_slice.ensures.value ∙ sym (same_Ok _ _ c.in_ok-inside.ensures) in
-    let named = scope_inside text tokens c.args.scope c.args.names.now c.as_slice.result.now c.turn_name-name.result items
-    ∙ ap (λ (x : Binding). inside s (bytes x.token) x.value) c.turn_name-name.ensures in
-    let once = turned-body line (λ r e. walk bytes lines n r start inner e) (λ i. inside s (bytes (node.token + 1)) i) count k a.value (draft_seen c.loop-k.draft) (draft_seen c.turn.new.self)
-    (scope_of c.args.scope (names_in text tokens c.as_slice.result.now)) low turned named in
-    let rest = ap length c.after-rest.ensures ∙ length-drop a.used own in
-    let behind = ap length c.after-inner.ensures ∙ length-drop b.used c.after-rest.result.now in
-    let fits : length inner ≤ n = omega arith in
-    Answers-exit _ _ _ _ _ _ c.from_residual-in_err-body.ensures.1 (c.in_err-body.ensures.answers n fits) (whole ∙ sym (c.loop-k.invariant.turned n h) ∙ once)
+    ∙ turns-next (walk bytes lines n) s bytes line (c.args.number + a.used + b.used) count c.loop-k.k inner a.value (node.token + 1) c.turn_name-name.result (draft_seen c.loop-k.draft)
+    low c.turn_name-name.ensures)
 
 pub turn_loop-loop-k-preserved : goal.turn_loop-loop-k-preserved
 turn_loop-loop-k-preserved t c = record {
-  ranks = c.in_ok-body.ensures.ranks ∙ c.turn.ensures.ranks ∙ c.loop-k.invariant.ranks;
+  ranks = c.in_ok-turn.ensures.ranks ∙ c.loop-k.invariant.ranks;
   turned = λ n h.
-      let text = c.args.text.now in
-      let tokens = token_list c.args.tokens.now in
-      let bytes = bytes_in text tokens in
-      let lines = lines_of tokens in
-      let s = scope_of c.args.scope (names_in text tokens c.args.names.now) in
+      let bytes = words_of c.args.context.now in
+      let lines = word_lines c.args.context.now in
+      let s = scope_in c.args.context.now in
       let node = c.args.node in
-      let own = c.args.own.now in
       let line = c.line-line.result in
       let a : Valued = value_seen c.in_ok-first.first in
       let b : Valued = value_seen c.in_ok-end.end in
-      let start = c.args.number + a.used + b.used in
       let inner = c.after-inner.result.now in
-      let k = c.loop-k.k in
       let count = turn_count a.value b.value in
+      let k = c.loop-k.k in
+      let fits = inner-fits n a.used b.used c.args.own.now c.after-rest.result.now inner c.after-rest.ensures c.after-inner.ensures h in
       let low : k < count = let m = c.turn_count-k-end.ensures in omega (arith, c.loop-k-test.true) in
-      let turned : with_turn line (draft_seen c.loop-k.draft) ≡ Ok (draft_seen c.turn.new.self) = c.in_ok-turn.ensures.answers in
-      let items = c.as_slice.ensures.value ∙ sym (same_Ok _ _ c.in_ok-inside.ensures) in
-      let named = scope_inside text tokens c.args.scope c.args.names.now c.as_slice.result.now c.turn_name-name.result items
-      ∙ ap (λ (x : Binding). inside s (bytes x.token) x.value) c.turn_name-name.ensures in
-      let once = turned-body line (λ r e. walk bytes lines n r start inner e) (λ i. inside s (bytes (node.token + 1)) i) count k a.value (draft_seen c.loop-k.draft) (draft_seen c.turn.new.self)
-      (scope_of c.args.scope (names_in text tokens c.as_slice.result.now)) low turned named in
-      let rest = ap length c.after-rest.ensures ∙ length-drop a.used own in
-      let behind = ap length c.after-inner.ensures ∙ length-drop b.used c.after-rest.result.now in
-      let fits : length inner ≤ n = omega arith in
-      sym (once ∙ ap (λ o. o >>= λ f. each_turn line (λ i e. walk bytes lines n (inside s (bytes (node.token + 1)) i) start inner e) (count - (k + 1)) (a.value +ℤ pos (k + 1)) f) (c.in_ok-body.ensures.answers n fits))
+      let start = c.args.number + a.used + b.used in
+      let left : Draft → Outcome Draft = λ f. each_turn line (λ i e. walk bytes lines n (inside s (bytes (node.token + 1)) i) start inner e) (count - (k + 1)) (a.value +ℤ pos (k + 1)) f in
+      sym (turns-next (walk bytes lines n) s bytes line start count k inner a.value (node.token + 1) c.turn_name-name.result (draft_seen c.loop-k.draft) low c.turn_name-name.ensures
+      ∙ ap (λ o. o >>= left) (c.in_ok-turn.ensures.answers n fits))
       ∙ c.loop-k.invariant.turned n h;
 }
 
 pub turn_loop-returns-clause-answers : goal.turn_loop-returns-clause-answers
 turn_loop-returns-clause-answers t c = λ n h.
-    let text = c.args.text.now in
-    let tokens = token_list c.args.tokens.now in
-    let bytes = bytes_in text tokens in
-    let lines = lines_of tokens in
-    let s = scope_of c.args.scope (names_in text tokens c.args.names.now) in
+    let bytes = words_of c.args.context.now in
+    let lines = word_lines c.args.context.now in
+    let s = scope_in c.args.context.now in
     let node = c.args.node in
-    let own = c.args.own.now in
     let line = c.line-line.result in
     let a : Valued = value_seen c.in_ok-first.first in
     let b : Valued = value_seen c.in_ok-end.end in
-    let start = c.args.number + a.used + b.used in
     let inner = c.after-inner.result.now in
-    let k = c.loop-k.k in
     let count = turn_count a.value b.value in
-    let whole = looped-at bytes lines (walk bytes lines n) s c.args.number node own c.after-rest.result.now inner (draft_seen c.args.draft.now) a b line
+    let whole = looped-at bytes lines (walk bytes lines n) s c.args.number node c.args.own.now c.after-rest.result.now inner (draft_seen c.args.draft.now) a b line
     c.line-line.ensures c.after-rest.ensures c.after-inner.ensures c.in_ok-first.ensures.answers c.in_ok-end.ensures.answers in
-    let high : count ≤ k = let m = c.turn_count-k-end.ensures in omega (arith, c.loop-k-test.false) in
+    let high : count ≤ c.loop-k.k = let m = c.turn_count-k-end.ensures in omega (arith, c.loop-k-test.false) in
     whole ∙ sym (c.loop-k.invariant.turned n h)
-    ∙ each_turn-none line (λ i e. walk bytes lines n (inside s (bytes (node.token + 1)) i) start inner e) count k a.value (draft_seen c.loop-k.draft) high
+    ∙ each_turn-none line (λ i e. walk bytes lines n (inside s (bytes (node.token + 1)) i) (c.args.number + a.used + b.used) inner e) count c.loop-k.k a.value (draft_seen c.loop-k.draft) high
+
+pub turn-returns-clause-answers : goal.turn-returns-clause-answers
+turn-returns-clause-answers t c = λ n h.
+    let text = c.args.context.now.text.now in
+    let tokens = token_list c.args.context.now.tokens.now in
+    let names = c.args.context.now.names.now in
+    let bytes = words_of c.args.context.now in
+    let lines = word_lines c.args.context.now in
+    let inner = c.args.inner.now in
+    let body : Scope → Draft → Outcome Draft = λ s e. walk bytes lines n s c.args.number inner e in
+    let counted : with_turn c.args.line (draft_seen c.args.draft.now) ≡ Ok (draft_seen c.turn.new.self) = c.in_ok-turn.ensures.answers in
+    let items = c.as_slice.ensures.value ∙ sym (same_Ok _ _ c.in_ok-names.ensures) in
+    let named = scope_inside text tokens c.args.context.now.scope names c.as_slice.result.now c.args.name items in
+    let whole = ap (λ o. o >>= body (inside (scope_in c.args.context.now) (bytes c.args.name.token) c.args.name.value)) counted
+    ∙ ap (λ s. body s (draft_seen c.turn.new.self)) (sym named) in
+    subst (Answers _ _) (sym whole) (c.body.ensures.answers n h)

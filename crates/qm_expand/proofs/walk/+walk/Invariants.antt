@@ -1,28 +1,29 @@
 use Rattle.std.proofs.Common.{◌≡◌, ℕ, ◌+◌, ◌*◌, ◌-◌, ◌≤◌, ◌+ℤ◌, pos, length}
-use Rattle.qm_lex.specs.Lexing.{token_list}
 use Rattle.qm_expand.specs.Expansion.{turn_count, each_turn, inside}
-use Rattle.qm_expand.specs.Reading.{lines_of}
-use Rattle.qm_expand.specs.Walk.{bytes_in, walk}
-use Rattle.qm_expand.specs.Views.{names_in, scope_of, draft_seen}
+use Rattle.qm_expand.specs.Walk.{walk}
+use Rattle.qm_expand.specs.Views.{words_of, word_lines, scope_in, draft_seen}
 use Rattle.qm_expand.proofs.walk.+walk.Given as goal
 
 abbrev pub decreases-body : goal.decreases-body
-decreases-body l = 3 * length l.nodes.now
+decreases-body l = 4 * length l.nodes.now
 
 abbrev pub decreases-step : goal.decreases-step
-decreases-step l = 3 * length l.own.now + 2
+decreases-step l = 4 * length l.own.now + 3
 
 abbrev pub decreases-turn_loop : goal.decreases-turn_loop
-decreases-turn_loop l = 3 * length l.own.now + 1
+decreases-turn_loop l = 4 * length l.own.now + 2
+
+abbrev pub decreases-turn : goal.decreases-turn
+decreases-turn l = 4 * length l.inner.now + 1
 
 abbrev pub decreases-body-loop-rest : goal.decreases-body-loop-rest
 decreases-body-loop-rest l = length l.rest
 
 abbrev pub invariant-body-loop-rest : goal.invariant-body-loop-rest
 invariant-body-loop-rest l =
-    let bytes = bytes_in l.text (token_list l.tokens) in
-    let lines = lines_of (token_list l.tokens) in
-    let s = scope_of l.scope (names_in l.text (token_list l.tokens) l.names) in
+    let bytes = words_of l.context in
+    let lines = word_lines l.context in
+    let s = scope_in l.context in
     record {
       from : l.number ≤ l.at;
       few : l.at + length l.rest ≡ l.number + length l.nodes;
@@ -33,9 +34,9 @@ invariant-body-loop-rest l =
 
 abbrev pub invariant-turn_loop-loop-k : goal.invariant-turn_loop-loop-k
 invariant-turn_loop-loop-k l =
-    let bytes = bytes_in l.text (token_list l.tokens) in
-    let lines = lines_of (token_list l.tokens) in
-    let s = scope_of l.scope (names_in l.text (token_list l.tokens) l.names) in
+    let bytes = words_of l.context in
+    let lines = word_lines l.context in
+    let s = scope_in l.context in
     let count = turn_count l.first.value l.end.value in
     record {
       ranks : length l.draft.input.ranks ≡ length l.fn.draft.input.ranks;

@@ -1,4 +1,4 @@
-use Rattle.qm_gen.specs.Seeds.{seed_words}
+use Rattle.qm_seed.specs.Seeds.{seed_words}
 use Rattle.qm_gen.proofs.MadeReads.{made-ready}
 use Rattle.qm_gen.proofs.laws.made_law.Goals as goal
 

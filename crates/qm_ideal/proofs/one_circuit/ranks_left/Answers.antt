@@ -1,7 +1,7 @@
-use Rattle.std.proofs.Common.{◌≡◌, ◌≤◌, ◌<◌, ◌-◌, ◌^◌, Bool, true, false, subst, arith}
+use Rattle.std.proofs.Common.{◌≤◌, ◌<◌, ◌-◌, ◌^◌, Bool, true, false, arith}
 use mir.Val.{bool_byte}
 use Rattle.qm_ideal.specs.Views.{tables_of}
-use Rattle.qm_ideal.proofs.NumberLemmas.{left_from-below, left_few}
+use Rattle.qm_ideal.proofs.NumberLemmas.{left_few}
 use Rattle.qm_ideal.proofs.one_circuit.ranks_left.Goals as goal
 
 bit_few : (b : Bool) → bool_byte b ≤ 1

@@ -1,4 +1,4 @@
-use Rattle.std.proofs.Common.{◌≡◌, ◌<◌, ◌≤◌, ℕ, false}
+use Rattle.std.proofs.Common.{◌≡◌, ◌<◌, ℕ, false}
 use Rattle.qm_proto.specs.Model.Ideal.{ideal_enabled}
 use Rattle.qm_ideal.specs.Views.{tables_of}
 use Rattle.qm_ideal.proofs.run.lowest_enabled.Given as goal

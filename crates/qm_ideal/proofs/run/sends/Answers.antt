@@ -1,7 +1,7 @@
-use Rattle.std.proofs.Common.{Some, ap, sym, ◌∙◌}
+use Rattle.std.proofs.Common.{ap, sym, ◌∙◌}
 use Rattle.qm_instr.specs.Lanes.{is_on}
 use Rattle.qm_proto.specs.Model.Ideal.{sends_on}
-use Rattle.qm_ideal.proofs.LaneTests.{same_on}
+use Rattle.qm_instr.proofs.LaneTests.{same_on}
 use Rattle.qm_ideal.proofs.run.sends.Goals as goal
 
 pub returns-in-Some : goal.returns-in-Some

@@ -1,6 +1,6 @@
 use Rattle.std.proofs.Common.{◌≡◌, ◌∙◌, true, false, cond, sym, ap}
 use Rattle.qm_denot.specs.Wires.{is_wire}
-use Rattle.qm_ideal.proofs.WireTests.{code_wire-is_wire}
+use Rattle.qm_denot.proofs.WireTests.{code_wire-is_wire}
 use Rattle.qm_ideal.proofs.width.renamed.Goals as goal
 
 pub returns-then-eq : goal.returns-then-eq

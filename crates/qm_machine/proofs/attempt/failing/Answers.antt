@@ -6,13 +6,11 @@ use Rattle.qm_machine.proofs.Passing.{passes_possible, stops_possible, passes_ze
 use Rattle.qm_machine.proofs.attempt.failing.Goals as goal
 
 pub can_be-requires-clause-live : goal.can_be-requires-clause-live
-unfolding facts
 can_be-requires-clause-live g c =
     let placed = rw c.in-Possible.is at c.requires.may in
     rw c.amps.ensures ((c.requires.sound.live c.in-Possible.w).1 placed)
 
 pub returns-in-Possible : goal.returns-in-Possible
-unfolding facts
 returns-in-Possible g c =
     let f = facts g.A.Amps.store c.args.body.now in
     let w = c.in-Possible.w in
@@ -24,13 +22,11 @@ returns-in-Possible g c =
     (λ e. passes_possible f w m (yes e)) (λ e. stops_possible f w m (no e)))
 
 pub always_zero-requires-clause-live : goal.always_zero-requires-clause-live
-unfolding facts
 always_zero-requires-clause-live g c =
     let placed = rw c.in-Zero.is at c.requires.may in
     rw c.amps-in-Zero.ensures ((c.requires.sound.live c.in-Zero.w).1 placed)
 
 pub returns-in-Zero : goal.returns-in-Zero
-unfolding facts
 returns-in-Zero g c =
     let f = facts g.A.Amps.store c.args.body.now in
     let w = c.in-Zero.w in
@@ -41,13 +37,11 @@ returns-in-Zero g c =
     (λ e. passes_zero f w (yes e)) (λ e. stops_zero f w (no e)))
 
 pub always_equal-requires-clause-live : goal.always_equal-requires-clause-live
-unfolding facts
 always_equal-requires-clause-live g c =
     let two = rw c.in-Equal.is at c.requires.may in
     rw c.amps-in-Equal.ensures ((c.requires.sound.live c.in-Equal.w).1 two.first, (c.requires.sound.live c.in-Equal.v).1 two.second)
 
 pub returns-in-Equal : goal.returns-in-Equal
-unfolding facts
 returns-in-Equal g c =
     let f = facts g.A.Amps.store c.args.body.now in
     let w = c.in-Equal.w in

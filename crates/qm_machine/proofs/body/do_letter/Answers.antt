@@ -1,4 +1,4 @@
-use Rattle.std.proofs.Common.{Result, Err, IsErr, refl}
+use Rattle.std.proofs.Common.{refl}
 use Rattle.qm_machine.proofs.body.do_letter.Goals as goal
 
 -- the letter never overflows

@@ -1,4 +1,4 @@
-use Rattle.std.proofs.Common.{◌≡◌, ℕ, ◌+◌, ◌++◌, take, drop, fold, get_or, subst}
+use Rattle.std.proofs.Common.{◌+◌, ◌++◌, take, drop, fold, get_or}
 use Rattle.qm_proto.specs.Model.Runs.{next}
 use Rattle.qm_proto.specs.Model.Schedules.{state_at_start}
 use Rattle.qm_print.specs.Blocks.{event_line, event_lines, event_name}

@@ -1,12 +1,9 @@
-use Rattle.qm_ideal.specs.OneCircuits.{bits_of, number_of_bits}
+use Rattle.qm_bits.specs.Numbers.{number_of_bits}
+use Rattle.qm_ideal.specs.OneCircuits.{bits_of}
 use Rattle.qm_print.specs.Bits.{bits_line}
-use Rattle.std.proofs.Common.{◌≡◌, ◌<◌, ◌∙◌, ap, length, arith, subst}
-use Rattle.qm_print.specs.Below.{text_below}
-use Rattle.qm_io.specs.Ends.{SinkView}
-use Rattle.qm_instr.specs.Programs.{Programs}
-use Rattle.qm_print.specs.Gathering.{Added}
+use Rattle.std.proofs.Common.{◌<◌, arith}
 use Rattle.qm_print.proofs.GatherLemmas.{Added-nothing, Gathers-stop}
-use Rattle.qm_print.proofs.BelowLemmas.{Added-below, Stopped-below, rank_slots-lines, slots_below-lines}
+use Rattle.qm_print.proofs.BelowLemmas.{Added-below, Stopped-below}
 use Rattle.qm_print.proofs.circuit.add_bits.Goals as goal
 
 pub returns-in_err-add_bits_line : goal.returns-in_err-add_bits_line

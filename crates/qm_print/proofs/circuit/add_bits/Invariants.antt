@@ -1,4 +1,5 @@
-use Rattle.qm_ideal.specs.OneCircuits.{bits_of, number_of_bits}
+use Rattle.qm_bits.specs.Numbers.{number_of_bits}
+use Rattle.qm_ideal.specs.OneCircuits.{bits_of}
 use Rattle.qm_print.specs.Bits.{bits_line}
 use Rattle.qm_print.specs.Below.{text_below}
 use Rattle.qm_print.specs.Gathering.{Added}

@@ -1,12 +1,10 @@
 use Rattle.qm_ideal.specs.OneCircuits.{slot_of}
 use Rattle.qm_print.specs.Slots.{slot_if, slot_lines}
-use Rattle.std.proofs.Common.{◌≡◌, ◌<◌, ◌∙◌, ap, length, arith, subst}
+use Rattle.std.proofs.Common.{◌≡◌, ◌<◌, arith, subst}
 use Rattle.qm_print.specs.Below.{text_below}
-use Rattle.qm_io.specs.Ends.{SinkView}
-use Rattle.qm_instr.specs.Programs.{Programs}
 use Rattle.qm_print.specs.Gathering.{Added}
 use Rattle.qm_print.proofs.GatherLemmas.{Added-nothing, Gathers-stop}
-use Rattle.qm_print.proofs.BelowLemmas.{Added-below, Stopped-below, rank_slots-lines, slots_below-lines}
+use Rattle.qm_print.proofs.BelowLemmas.{Added-below, Stopped-below, rank_slots-lines}
 use Rattle.qm_print.proofs.circuit.add_rank_slots.Goals as goal
 
 pub returns-in_err-add_slot_if : goal.returns-in_err-add_slot_if

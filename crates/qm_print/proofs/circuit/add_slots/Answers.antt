@@ -1,13 +1,11 @@
 use Rattle.qm_ideal.specs.OneCircuits.{slot_of}
 use Rattle.qm_instr.specs.Programs.{rank_of}
 use Rattle.qm_print.specs.Slots.{rank_slots, slot_lines}
-use Rattle.std.proofs.Common.{◌≡◌, ◌<◌, ◌∙◌, ap, length, arith, subst}
+use Rattle.std.proofs.Common.{◌≡◌, ◌<◌, length, arith, subst}
 use Rattle.qm_print.specs.Below.{text_below}
-use Rattle.qm_io.specs.Ends.{SinkView}
-use Rattle.qm_instr.specs.Programs.{Programs}
 use Rattle.qm_print.specs.Gathering.{Added}
 use Rattle.qm_print.proofs.GatherLemmas.{Added-nothing, Gathers-stop}
-use Rattle.qm_print.proofs.BelowLemmas.{Added-below, Stopped-below, rank_slots-lines, slots_below-lines}
+use Rattle.qm_print.proofs.BelowLemmas.{Added-below, Stopped-below, slots_below-lines}
 use Rattle.qm_print.proofs.circuit.add_slots.Goals as goal
 
 pub returns-in_err-add_rank_slots : goal.returns-in_err-add_rank_slots

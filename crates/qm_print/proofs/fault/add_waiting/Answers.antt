@@ -1,11 +1,7 @@
 use Rattle.qm_print.specs.FaultText.{waiting_at}
-use Rattle.std.proofs.Common.{◌≡◌, ◌<◌, ◌∙◌, ap, length, arith, subst}
-use Rattle.qm_print.specs.Below.{text_below}
-use Rattle.qm_io.specs.Ends.{SinkView}
-use Rattle.qm_instr.specs.Programs.{Programs}
-use Rattle.qm_print.specs.Gathering.{Added}
+use Rattle.std.proofs.Common.{◌<◌, arith}
 use Rattle.qm_print.proofs.GatherLemmas.{Added-nothing, Gathers-stop}
-use Rattle.qm_print.proofs.BelowLemmas.{Added-below, Stopped-below, rank_slots-lines, slots_below-lines}
+use Rattle.qm_print.proofs.BelowLemmas.{Added-below, Stopped-below}
 use Rattle.qm_print.proofs.fault.add_waiting.Goals as goal
 
 pub returns-in_err-add_rank_if : goal.returns-in_err-add_rank_if

@@ -1,7 +1,3 @@
-use Rattle.std.proofs.Common.{List, ℕ, subst, sym}
-use Rattle.qm_instr.specs.Programs.{Programs}
-use Rattle.qm_proto.specs.Model.Schedules.{IsLegal}
-use Rattle.qm_proto.specs.WorkedRun.{copy_schedule}
 use Rattle.qm_proto.proofs.WorkedRuns as runs
 use Rattle.qm_print.proofs.tests.turns_and_events_are_written.Goals as goal
 

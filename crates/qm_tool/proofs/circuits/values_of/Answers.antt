@@ -1,4 +1,4 @@
-use Rattle.std.proofs.Common.{◌≤◌, sym, ap, subst, ◌∙◌, arith}
+use Rattle.std.proofs.Common.{sym, ap, subst, ◌∙◌, arith}
 use Rattle.qm_instr.specs.Programs.{Programs, IsInRange}
 use Rattle.qm_ideal.specs.OneCircuits.{slot_of}
 use Rattle.qm_print.specs.Slots.{AreLive, full_slots}

@@ -1,8 +1,9 @@
 use Rattle.std.proofs.Common.{Some, None, sym, ap, ◌∙◌}
 use Rattle.std.proofs.lemmas.List.{append-nil}
-use Rattle.qm_tool.proofs.FullSlots.{rank_slots-next, none_where_not_some}
+use Rattle.qm_tool.proofs.FullSlots.{rank_slots-next}
 use Rattle.qm_tool.proofs.ends.push_slots.Goals as goal
 use Rattle.qm_tool.proofs.ends.push_slots.Goals.{in-Some+in_ok-push, in_default}
+use Rattle.qm_eval.proofs.RoomLemmas.{none_where_not_some}
 
 pub loop-slot-preserved : goal.loop-slot-preserved
 loop-slot-preserved g c =

@@ -1,7 +1,6 @@
-use Rattle.std.proofs.Common.{◌∙◌, Some, sym, ap, ap₂}
+use Rattle.std.proofs.Common.{◌∙◌, sym, ap}
 use Rattle.qm_proto.specs.Model.Rows.{instr_at}
-use Rattle.qm_ideal.specs.Meetings.{gone}
-use Rattle.qm_ideal.specs.MeetingViews.{stand_in, line_in, line_meant}
+use Rattle.qm_ideal.specs.MeetingViews.{line_in}
 use Rattle.qm_ideal.proofs.LineLemmas.{stepped_so}
 use Rattle.qm_ideal.proofs.meeting.Meeting.step.Goals as goal
 

@@ -1,5 +1,3 @@
-use Rattle.std.proofs.Common.{refl}
-use Rattle.qm_ideal.specs.Lanes.{lanes_of}
 use Rattle.qm_ideal.proofs.TableLemmas.{start_tables}
 use Rattle.qm_ideal.proofs.tables.Tables.start.Goals as goal
 

@@ -1,4 +1,4 @@
-use Rattle.std.proofs.Common.{◌≡◌, ◌≤◌, ◌+◌, replicate, vec_len, vec_capacity, None, false}
+use Rattle.std.proofs.Common.{◌≡◌, ◌≤◌, replicate, vec_capacity}
 use Rattle.qm_ideal.specs.Views.{unmoved}
 use Rattle.qm_ideal.proofs.tables.Tables.start.Given as goal
 

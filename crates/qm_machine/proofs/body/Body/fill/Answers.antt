@@ -1,28 +1,20 @@
 use Rattle.std.proofs.Common.{ap, refl, ◌∙◌}
-use Rattle.qm_machine.specs.Views.{MailView, facts, mail_of, tables_of}
+use Rattle.qm_machine.specs.Views.{MailView, facts, tables, mail_of, tables_of}
 use Rattle.qm_machine.proofs.MailTables.{mail_changed, known_to_fill}
-use Rattle.qm_machine.proofs.Squares.{did_fill}
+use Rattle.qm_machine.proofs.Squares.{same_beside, did_fill}
 use Rattle.qm_machine.proofs.body.Body.fill.Goals as goal
 
 pub fill-requires : goal.fill-requires
-unfolding facts
+unfolding tables
 fill-requires g c = c.requires
 
 pub returns : goal.returns
-unfolding facts
+unfolding tables
 returns g c r can =
-    let m = c.args.self.now.mail in
+    let f = facts g.A.Amps.store c.args.self.now in
+    let b = c.args.self.now.books in
+    let m = b.mail in
     let mail = ap mail_of c.fill.ensures ∙ mail_changed m c.args.lane _ (known_to_fill m c.args.lane c.requires) in
     did_fill _ _ r
-    (record {
-      store = refl;
-      placing = can.sound.placing;
-      slotted = refl;
-      capacity = refl;
-      sizes = refl;
-      parcels = ap (λ (m : MailView). m.parcels) mail;
-      ranks = refl;
-      letters = refl;
-      paulis = refl;
-    })
-    c.args.lane c.args.bits can (ap (tables_of c.args.self.now.ranks.items c.args.self.now.places.placed c.args.self.now.halves) mail)
+    (same_beside f _ _ _ can.sound.placing (ap (λ (m : MailView). m.parcels) mail) refl)
+    c.args.lane c.args.bits can (ap (tables_of b.ranks.items b.places.placed b.halves) mail)

@@ -4,7 +4,7 @@ use Rattle.qm_denot.specs.declared.Wire.{Wire}
 use Rattle.qm_owner.specs.Places.{PlaceMap}
 use Rattle.qm_proto.specs.Model.Acts.{counted}
 use Rattle.qm_proto.specs.Model.State.{Part, with_slot}
-use Rattle.qm_machine.specs.Views.{facts, slots_in, near_in, far_in}
+use Rattle.qm_machine.specs.Views.{facts, tables, slots_in, near_in, far_in}
 use Rattle.qm_machine.proofs.Leaving.{few_placed}
 use Rattle.qm_machine.proofs.PlaceTables.{no_place, all_placed, slots_filled, near_by_slot, far_by_slot}
 use Rattle.qm_machine.proofs.RankTables.{same_tables, part_read, parts_changed}
@@ -12,59 +12,59 @@ use Rattle.qm_machine.proofs.Squares.{did_fresh}
 use Rattle.qm_machine.proofs.body.Body.fresh.Goals as goal
 
 pub fresh-requires-clause-absent : goal.fresh-requires-clause-absent
-unfolding facts
+unfolding tables
 fresh-requires-clause-absent g c h =
     let at = (c.requires.can.sound.live c.far_made-w.result).0 h in
     c.requires.can.may.0.absent (rw c.far_made-w.ensures at at)
 
 pub fresh-requires-clause-room : goal.fresh-requires-clause-room
-unfolding facts
+unfolding tables
 fresh-requires-clause-room g c = omega (arith, c.requires.can.may.0.room, c.requires.can.sound.room)
 
 pub put-requires-clause-absent : goal.put-requires-clause-absent
-unfolding facts
+unfolding tables
 put-requires-clause-absent g c =
-    no_place (facts g.A.Amps.store c.args.self.now).tables c.args.self.now.places.placed refl refl refl c.requires.can.sound.placing c.far_made-w.result
+    no_place (facts g.A.Amps.store c.args.self.now).tables c.args.self.now.books.places.placed refl refl refl c.requires.can.sound.placing c.far_made-w.result
     (λ at. c.requires.can.may.0.absent (rw c.far_made-w.ensures at at))
 
 pub put-requires-clause-known : goal.put-requires-clause-known
-unfolding facts
+unfolding tables
 put-requires-clause-known g c =
     let ranks = c.requires.can.sound.slotted in
     let known = c.requires.can.known in
-    and_from _ _ (lt-ltb c.args.rank c.args.self.now.places.ranks (omega arith)) (lt-ltb c.args.q 16 c.requires.can.may.0.slot)
+    and_from _ _ (lt-ltb c.args.rank c.args.self.now.books.places.ranks (omega arith)) (lt-ltb c.args.q 16 c.requires.can.may.0.slot)
 
 pub put-requires-clause-free : goal.put-requires-clause-free
-unfolding facts
+unfolding tables
 put-requires-clause-free g c = c.requires.can.may.0.empty
 
 pub put-requires-clause-room : goal.put-requires-clause-room
-unfolding facts
+unfolding tables
 put-requires-clause-room g c =
-    let t = (facts g.A.Amps.store c.args.self.now).tables in
-    let es = c.args.self.now.places.placed in
+    let t = tables c.args.self.now.books in
+    let es = c.args.self.now.books.places.placed in
     let sound = c.requires.can.sound in
     let few = few_placed es _ sound.placing (g.met.A.Amps.sound c.args.self.now.amps).distinct
     (λ w h. (sound.live w).1 (all_placed t es refl refl refl sound.placing w h)) in
     omega (arith, few, c.requires.can.may.0.room)
 
 pub index_mut-requires : goal.index_mut-requires
-unfolding facts
-index_mut-requires g c = let e = c.args.self.now.ranks.ok.0 in let h = c.requires.can.known in omega arith
+unfolding tables
+index_mut-requires g c = let e = c.args.self.now.books.ranks.ok.0 in let h = c.requires.can.known in omega arith
 
 pub count_wire-requires : goal.count_wire-requires
-unfolding facts
+unfolding tables
 count_wire-requires g c =
-    let read = part_read c.args.self.now.ranks.items c.from.result c.args.rank c.index_mut.result.now c.from.ensures c.requires.can.known c.index_mut.ensures.value in
+    let read = part_read c.args.self.now.books.ranks.items c.from.result c.args.rank c.index_mut.result.now c.from.ensures c.requires.can.known c.index_mut.ensures.value in
     let made = ap (λ (x : Part). x.made) read in
     let h = c.requires.can.may.0.countable in
     rw made h
 
 pub returns : goal.returns
-unfolding facts
+unfolding tables
 returns g c =
-    let ranks = c.args.self.now.ranks.items in
-    let es = c.args.self.now.places.placed in
+    let ranks = c.args.self.now.books.ranks.items in
+    let es = c.args.self.now.books.places.placed in
     let r = c.args.rank in
     let q = c.args.q in
     let w = c.far_made-w.result in

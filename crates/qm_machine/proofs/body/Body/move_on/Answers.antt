@@ -2,34 +2,34 @@ use Rattle.std.proofs.Common.{◌∙◌, ℕ, length, slice_set, ap, arith, leng
 use Rattle.qm_proto.specs.Model.State.{Part, with_at}
 use Rattle.qm_proto.specs.Model.Runs.{moved_on}
 use Rattle.qm_machine.specs.Facts.{Facts}
-use Rattle.qm_machine.specs.Views.{facts}
+use Rattle.qm_machine.specs.Views.{facts, tables}
 use Rattle.qm_machine.proofs.RankTables.{part_read, parts_changed}
 use Rattle.qm_machine.proofs.body.Body.move_on.Goals as goal
 
 pub index_mut-requires : goal.index_mut-requires
-unfolding facts
-index_mut-requires g c = let e = c.args.self.now.ranks.ok.0 in let h = c.requires.known in omega arith
+unfolding tables
+index_mut-requires g c = let e = c.args.self.now.books.ranks.ok.0 in let h = c.requires.known in omega arith
 
 pub move_on-requires-clause-at : goal.move_on-requires-clause-at
-unfolding facts
+unfolding tables
 move_on-requires-clause-at g c =
-    let read = part_read c.args.self.now.ranks.items c.from.result c.args.rank c.index_mut.result.now c.from.ensures c.requires.known c.index_mut.ensures.value in
+    let read = part_read c.args.self.now.books.ranks.items c.from.result c.args.rank c.index_mut.result.now c.from.ensures c.requires.known c.index_mut.ensures.value in
     let at = ap (λ (x : Part). x.at) read in
     let h = c.requires.at in
     rw at h
 
 pub move_on-requires-clause-stage : goal.move_on-requires-clause-stage
-unfolding facts
+unfolding tables
 move_on-requires-clause-stage g c =
-    let read = part_read c.args.self.now.ranks.items c.from.result c.args.rank c.index_mut.result.now c.from.ensures c.requires.known c.index_mut.ensures.value in
+    let read = part_read c.args.self.now.books.ranks.items c.from.result c.args.rank c.index_mut.result.now c.from.ensures c.requires.known c.index_mut.ensures.value in
     let stage = ap (λ (x : Part). x.stage) read in
     let h = c.requires.stage in
     rw stage h
 
 pub returns : goal.returns
-unfolding facts
+unfolding tables
 returns g c =
-    let ranks = c.args.self.now.ranks.items in
+    let ranks = c.args.self.now.books.ranks.items in
     let f = facts g.A.Amps.store c.args.self.now in
     let t = f.tables in
     let r = c.args.rank in

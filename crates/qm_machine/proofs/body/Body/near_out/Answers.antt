@@ -4,7 +4,7 @@ use Rattle.qm_denot.specs.Wires.{put}
 use Rattle.qm_owner.specs.declared.Place.TheVariants.{Near}
 use Rattle.qm_owner.specs.Places.{PlaceMap, place_of}
 use Rattle.qm_proto.specs.Model.State.{with_at, near_last}
-use Rattle.qm_machine.specs.Views.{facts, slots_in, near_in, far_in}
+use Rattle.qm_machine.specs.Views.{tables, slots_in, near_in, far_in}
 use Rattle.qm_machine.proofs.Leaving.{slots_after_near, near_left, far_after_near, shrunk_at}
 use Rattle.qm_machine.proofs.PlaceTables.{place_at}
 use Rattle.qm_machine.proofs.RankTables.{same_tables}
@@ -12,31 +12,31 @@ use Rattle.qm_machine.proofs.Squares.{near_lives, did_near_out}
 use Rattle.qm_machine.proofs.body.Body.near_out.Goals as goal
 
 pub do_letter-requires-clause-may : goal.do_letter-requires-clause-may
-unfolding facts
+unfolding tables
 do_letter-requires-clause-may g c = rw c.near_last-w.ensures (near_lives _ c.args.rank c.args.m c.requires.can)
 
 pub take-requires : goal.take-requires
-unfolding facts
+unfolding tables
 take-requires g c =
-    let t = (facts g.A.Amps.store c.args.self.now).tables in
-    let es = c.args.self.now.places.placed in
+    let t = tables c.args.self.now.books in
+    let es = c.args.self.now.books.places.placed in
     let at = place_at t es refl refl refl c.requires.can.sound.placing (near_last t c.args.rank) (Near c.args.rank) c.requires.can.may.0.only.here in
     rw c.near_last-w.ensures (subst IsSome (sym at) refl)
 
 pub drop_half-requires : goal.drop_half-requires
-unfolding facts
+unfolding tables
 drop_half-requires g c = c.requires.can.counted.0
 
 pub overflow_add-self : goal.overflow_add-self
-unfolding facts
+unfolding tables
 overflow_add-self g c = let h = c.requires.can.may.0.letter in omega arith
 
 pub returns : goal.returns
-unfolding facts
+unfolding tables
 returns g c =
-    let t = (facts g.A.Amps.store c.args.self.now).tables in
-    let es = c.args.self.now.places.placed in
-    let bs = c.args.self.now.halves in
+    let t = tables c.args.self.now.books in
+    let es = c.args.self.now.books.places.placed in
+    let bs = c.args.self.now.books.halves in
     let r = c.args.rank in
     let w = c.near_last-w.result in
     let is : w ≡ near_last t r = c.near_last-w.ensures in

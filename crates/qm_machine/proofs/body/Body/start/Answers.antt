@@ -13,7 +13,7 @@ use Rattle.qm_mail.specs.Mails.{parcels_on, sends_on}
 use Rattle.qm_mail.proofs.Lanes.{parcels_on-start, sends_on-start}
 use Rattle.qm_machine.proofs.MailTables.{rising}
 use Rattle.qm_instr.specs.Programs.{Programs, RankProgram, IsInRange, IsRankInRange, rank_of}
-use Rattle.qm_machine.specs.Views.{facts, part_of, mail_of, sizes_in, tables_of}
+use Rattle.qm_machine.specs.Views.{tables, part_of, mail_of, sizes_in, tables_of}
 use Rattle.qm_proto.specs.Model.Schedules.{part_at_start}
 use Rattle.qm_machine.proofs.StartTables.{part_by_tapes, start_more, start_tables}
 use Rattle.qm_machine.proofs.body.Body.start.Goals as goal
@@ -56,7 +56,7 @@ pub start-requires-4 : goal.start-requires-4
 start-requires-4 g c = rising c.lanes.result.now c.lanes.ensures.rising
 
 pub returns-clause-start : goal.returns-clause-start
-unfolding facts
+unfolding tables
 returns-clause-start g c =
     let ranks = c.loop-rank.ranks in
     let p = c.input-input.result.now in

@@ -6,7 +6,7 @@ use Rattle.qm_owner.specs.Places.{PlaceMap, place_of}
 use Rattle.qm_owner.proofs.Standing.{still_absent}
 use Rattle.qm_proto.specs.Model.Acts.{counted, more_at}
 use Rattle.qm_proto.specs.Model.State.{Part, with_at, near_made, far_made}
-use Rattle.qm_machine.specs.Views.{facts, slots_in, near_in, far_in}
+use Rattle.qm_machine.specs.Views.{tables, slots_in, near_in, far_in}
 use Rattle.qm_machine.specs.Facts.{size_at}
 use Rattle.qm_machine.proofs.Leaving.{few_placed, size_read, grown_at}
 use Rattle.qm_machine.proofs.PlaceTables.{no_place, all_placed, slots_by_near, near_come, far_by_near, slots_by_far, near_by_far, far_come}
@@ -15,31 +15,31 @@ use Rattle.qm_machine.proofs.Squares.{may_pair, did_twin}
 use Rattle.qm_machine.proofs.body.Body.twin.Goals as goal
 
 pub do_letter-requires-clause-may : goal.do_letter-requires-clause-may
-unfolding facts
+unfolding tables
 do_letter-requires-clause-may g c = rw c.far_made-f.ensures (may_pair _ c.args.rank c.args.to c.requires.can c.requires.grow)
 
 pub put-requires-clause-absent : goal.put-requires-clause-absent
-unfolding facts
+unfolding tables
 put-requires-clause-absent g c =
-    let t = (facts g.A.Amps.store c.args.self.now).tables in
+    let t = tables c.args.self.now.books in
     rw c.far_made-f.ensures
-    (no_place t c.args.self.now.places.placed refl refl refl c.requires.can.sound.placing (near_made t c.args.rank) c.requires.can.may.0.near_absent)
+    (no_place t c.args.self.now.books.places.placed refl refl refl c.requires.can.sound.placing (near_made t c.args.rank) c.requires.can.may.0.near_absent)
 
 pub put-requires-clause-room : goal.put-requires-clause-room
-unfolding facts
+unfolding tables
 put-requires-clause-room g c =
-    let t = (facts g.A.Amps.store c.args.self.now).tables in
-    let es = c.args.self.now.places.placed in
+    let t = tables c.args.self.now.books in
+    let es = c.args.self.now.books.places.placed in
     let sound = c.requires.can.sound in
     let few = few_placed es _ sound.placing (g.met.A.Amps.sound c.args.self.now.amps).distinct
     (λ w h. (sound.live w).1 (all_placed t es refl refl refl sound.placing w h)) in
     omega (arith, few, c.requires.can.may.0.room)
 
 pub put-requires-2-clause-absent : goal.put-requires-2-clause-absent
-unfolding facts
+unfolding tables
 put-requires-2-clause-absent g c =
-    let t = (facts g.A.Amps.store c.args.self.now).tables in
-    let es = c.args.self.now.places.placed in
+    let t = tables c.args.self.now.books in
+    let es = c.args.self.now.books.places.placed in
     let f = c.far_made-f.result in
     let e : Wire = record f { near = true } in
     let absent : place_of es f ≡ None = rw c.far_made-f.ensures (no_place t es refl refl refl c.requires.can.sound.placing (far_made t c.args.rank) c.requires.can.may.0.far_absent) in
@@ -49,10 +49,10 @@ put-requires-2-clause-absent g c =
     ap (λ (m : PlaceMap). place_of m.placed f) c.put.ensures.places ∙ still_absent es e f _ absent apart
 
 pub put-requires-2-clause-room : goal.put-requires-2-clause-room
-unfolding facts
+unfolding tables
 put-requires-2-clause-room g c =
-    let t = (facts g.A.Amps.store c.args.self.now).tables in
-    let es = c.args.self.now.places.placed in
+    let t = tables c.args.self.now.books in
+    let es = c.args.self.now.books.places.placed in
     let sound = c.requires.can.sound in
     let few = few_placed es _ sound.placing (g.met.A.Amps.sound c.args.self.now.amps).distinct
     (λ w h. (sound.live w).1 (all_placed t es refl refl refl sound.placing w h)) in
@@ -61,13 +61,13 @@ put-requires-2-clause-room g c =
     omega (arith, few, size, capacity, c.requires.can.may.0.room)
 
 pub add-requires : goal.add-requires
-unfolding facts
-add-requires g c = omega (arith, c.requires.can.counted.0.0, size_read c.args.self.now.halves c.args.rank)
+unfolding tables
+add-requires g c = omega (arith, c.requires.can.counted.0.0, size_read c.args.self.now.books.halves c.args.rank)
 
 pub add-requires-2 : goal.add-requires-2
-unfolding facts
+unfolding tables
 add-requires-2 g c =
-    let bs = c.args.self.now.halves in
+    let bs = c.args.self.now.books.halves in
     let r = c.args.rank in
     let to = c.args.to in
     let room : (buffer_at bs r).held < (buffer_at bs r).size = omega (arith, c.requires.can.counted.0.0, size_read bs r) in
@@ -77,28 +77,28 @@ add-requires-2 g c =
     omega (arith, held, size, c.requires.can.counted.0.1)
 
 pub index_mut-requires : goal.index_mut-requires
-unfolding facts
-index_mut-requires g c = let e = c.args.self.now.ranks.ok.0 in let h = c.requires.can.known in omega arith
+unfolding tables
+index_mut-requires g c = let e = c.args.self.now.books.ranks.ok.0 in let h = c.requires.can.known in omega arith
 
 pub count_wire-requires : goal.count_wire-requires
-unfolding facts
+unfolding tables
 count_wire-requires g c =
-    let read = part_read c.args.self.now.ranks.items c.from.result c.args.rank c.index_mut.result.now c.from.ensures c.requires.can.known c.index_mut.ensures.value in
+    let read = part_read c.args.self.now.books.ranks.items c.from.result c.args.rank c.index_mut.result.now c.from.ensures c.requires.can.known c.index_mut.ensures.value in
     let made = ap (λ (x : Part). x.made) read in
     let h = c.requires.can.may.0.countable in
     rw made h
 
 pub overflow_add-self : goal.overflow_add-self
-unfolding facts
+unfolding tables
 overflow_add-self g c = let h = c.requires.can.may.0.letter in omega arith
 
 pub returns : goal.returns
-unfolding facts
+unfolding tables
 returns g c =
-    let ranks = c.args.self.now.ranks.items in
-    let t = (facts g.A.Amps.store c.args.self.now).tables in
-    let es = c.args.self.now.places.placed in
-    let bs = c.args.self.now.halves in
+    let ranks = c.args.self.now.books.ranks.items in
+    let t = tables c.args.self.now.books in
+    let es = c.args.self.now.books.places.placed in
+    let bs = c.args.self.now.books.halves in
     let r = c.args.rank in
     let to = c.args.to in
     let f = c.far_made-f.result in

@@ -1,7 +1,9 @@
-use Rattle.std.proofs.Common.{◌≡◌, ◌<◌, true, Some, length, vec_capacity, sym, inr, arith}
+use Rattle.std.proofs.Common.{◌≡◌, ◌<◌, true, Some, length, vec_capacity, sym, subst, inr, arith}
 use Rattle.qm_proto.specs.Model.Acts.{list_of}
 use Rattle.qm_proto.specs.Model.Runs.{row_next, enabled}
 use Rattle.qm_proto.specs.Model.State.{Tables}
+use Rattle.qm_machine.specs.Facts.{Facts}
+use Rattle.qm_machine.specs.Keeps.{IsKept}
 use Rattle.qm_machine.specs.Views.{facts}
 use Rattle.qm_machine.proofs.Chains.{advanced, did_ranks}
 use Rattle.qm_machine.proofs.RowsRead.{at_countable}
@@ -62,6 +64,13 @@ invariant_of-self g c =
     let moved = advanced p f done after c.args.rank c.events_here-events.result c.args.row is (sym events) c.in-Ok.ensures.did c.move_on.ensures in
     rw (c.push_reserved.ensures.items, c.push_reserved.ensures.capacity, c.from.ensures)
     (kept_did _ _ _ _ _ c.self.invariant c.args.rank c.args.row go.known go.able go.next after go.running c.in-Ok.ensures.passes moved)
+
+-- a refused attempt leaves the body as it was
+pub invariant_of-self-in-Err : goal.invariant_of-self-in-Err
+invariant_of-self-in-Err g c =
+    let m = c.self.inside in
+    let kept : Facts → Type 0 = λ f. IsKept m.ready m.schedule.items m.halted f (vec_capacity m.schedule) in
+    subst kept (sym c.in-Err.ensures.same) c.self.invariant
 
 pub returns-in-Ok-clause-step : goal.returns-in-Ok-clause-step
 returns-in-Ok-clause-step g c =

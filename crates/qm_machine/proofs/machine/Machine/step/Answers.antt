@@ -1,5 +1,5 @@
 use Rattle.std.proofs.Common.{◌≡◌, None, sym, ◌∙◌}
-use Rattle.qm_machine.specs.Views.{facts}
+use Rattle.qm_machine.specs.Views.{tables}
 use Rattle.qm_machine.proofs.Halting.{never_overflows, impossible_at_measure, never_stuck}
 use Rattle.qm_machine.proofs.RowsRead.{rule_known}
 use Rattle.qm_machine.proofs.Steps.{none_by, keeps, step_ended}
@@ -11,7 +11,7 @@ lacks-requires g c =
     let next = rw c.input-input.ensures.value at c.in-Some.ensures in
     rw c.input-input.ensures.value
     (record {
-      known = rule_known p (facts g.A.Amps.store c.self.inside.body).tables c.args.rank c.in-Some.row (sym next) c.self.invariant.ready;
+      known = rule_known p (tables c.self.inside.body.books) c.args.rank c.in-Some.row (sym next) c.self.invariant.ready;
       same = c.self.invariant.ranks;
       sizes = c.self.invariant.sizes;
     })

@@ -1,0 +1,22 @@
+//! The classical bits of a rank, and the number that they make.
+#![tactic(auto)]
+
+ghost use Rattle.std.specs.Prelude.{◌≡◌};
+ghost use Rattle.qm_bits.specs.Numbers.{number_of_bits};
+
+#[cfg(test)]
+mod tests;
+
+/// How many classical bits a rank has.
+pub const BITS: usize = 32;
+
+/// The number that a rank's bits make, bit 0 the lowest.
+pub fn number_of_bits(bits: &[bool; BITS]) -> u32
+    ensures { result ≡ number_of_bits bits.now }
+{
+    let mut number = 0;
+    for k in 0..BITS {
+        number = 2 * number + u32::from(bits[BITS - 1 - k]);
+    }
+    number
+}

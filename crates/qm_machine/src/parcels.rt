@@ -1,0 +1,64 @@
+//! What a parcel carries.
+ghost use Rattle.std.specs.Prelude.{◌≡◌};
+ghost use Rattle.qm_proto.specs.Model.State.{wire_of, first_bit, second_bit};
+ghost use Rattle.qm_proto.specs.Model.Rows.{half, told};
+
+use qm_denot::Wire;
+use qm_proto::Parcel;
+
+/// What stands for the wire of an empty slot, or of a parcel that carries none.
+pub(crate) const NO_WIRE: Wire = Wire {
+    rank: 0,
+    made: 0,
+    near: false,
+};
+
+/// The wire that a parcel carries.
+pub(crate) fn wire_of(parcel: Parcel) -> Wire
+    ensures { result ≡ wire_of parcel }
+{
+    match parcel.wire {
+        Some(wire) => wire,
+        None => NO_WIRE,
+    }
+}
+
+/// A parcel's first bit.
+pub(crate) fn first_bit(parcel: Parcel) -> bool
+    ensures { result ≡ first_bit parcel }
+{
+    match parcel.bits {
+        Some((first, _)) => first,
+        None => false,
+    }
+}
+
+/// A parcel's second bit.
+pub(crate) fn second_bit(parcel: Parcel) -> bool
+    ensures { result ≡ second_bit parcel }
+{
+    match parcel.bits {
+        Some((_, second)) => second,
+        None => false,
+    }
+}
+
+/// A parcel that carries the half `f`.
+pub(crate) fn half(f: Wire) -> Parcel
+    ensures { result ≡ half f }
+{
+    Parcel {
+        wire: Some(f),
+        bits: None,
+    }
+}
+
+/// A parcel that carries a bit.
+pub(crate) fn told(m: bool) -> Parcel
+    ensures { result ≡ told m }
+{
+    Parcel {
+        wire: None,
+        bits: Some((m, false)),
+    }
+}
