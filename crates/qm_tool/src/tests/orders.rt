@@ -253,20 +253,27 @@ fn most_ever_held(machine: &mut Machine<PlainAmps>, seed: u64) -> Option<u32> {
     None
 }
 
+/// Whether buffers of this size stand beside the slots of a program: three ranks with three slots leave 4 no room in a capacity of 20.
+fn has_room(program: &Program, buffer: u32) -> bool {
+    buffer < 4 || program.head != "qmpi 1 ranks 3 qubits 3 buffer"
+}
+
 // A pair is held at two ranks at once, so some rank always holds a half.
 #[test]
 fn no_rank_holds_more_halves_than_its_buffer(rt: HostRuntime) -> Result<(), Fail> {
     for program in programs() {
-        for buffer in 1..4u32 {
-            let text = text_of(rt.alloc(), &program, u64::from(buffer), 5)?;
-            for seed in 0..20 {
-                let mut machine = machine_of(&rt, rt.alloc(), &text)?;
-                let held = most_ever_held(&mut machine, seed).unwrap_or(0);
-                assert!(rt;
-                    0 < held && held <= buffer,
-                    "buffers of {buffer}, seed {seed} at {}",
-                    program.body
-                );
+        for buffer in 1..5u32 {
+            if has_room(&program, buffer) {
+                let text = text_of(rt.alloc(), &program, u64::from(buffer), 5)?;
+                for seed in 0..20 {
+                    let mut machine = machine_of(&rt, rt.alloc(), &text)?;
+                    let held = most_ever_held(&mut machine, seed).unwrap_or(0);
+                    assert!(rt;
+                        0 < held && held <= buffer,
+                        "buffers of {buffer}, seed {seed} at {}",
+                        program.body
+                    );
+                }
             }
         }
     }
