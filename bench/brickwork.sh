@@ -1,4 +1,5 @@
 #!/usr/bin/env bash
+# usage: brickwork.sh [PROGRAM]; without it the program that `rt ci` has left. `rounds` in the environment says how often each is run.
 # Times the letters of brickwork circuits under `plain` beside brickwork.c, which does the same letters in C: nanoseconds for one letter
 # and one amplitude at 10 to 18 live wires, and the program's ratio to the C loop. All take turns on one processor, and the least of
 # their processor times counts, so that it matters little what else the machine does.
@@ -6,7 +7,7 @@
 # Where one rank has too few qubits there are two, and the first waits for a bit of the second: so all wires live before any letter.
 # At the end all qubits are measured as zero, so that one amplitude is printed. The time of a program of one layer is taken off that of
 # all layers. Wants gcc, and a built program: run `rt ci` first.
-# usage: brickwork.sh [PROGRAM]; without it the program that `rt ci` has left. `rounds` in the environment says how often each is run.
+# Before that, both do the letters at 6 wires, and must come to the same scale.
 set -euo pipefail
 top=$(cd "$(dirname "${BASH_SOURCE[0]}")/.." && pwd)
 program=${1:-$top/crates/qmpi/out/qmpi}
@@ -17,6 +18,7 @@ if command -v taskset > /dev/null; then pinned=(taskset -c 0); fi
 [ -x "$program" ] || { echo "no program at $program: run 'rt ci' first" >&2; exit 1; }
 work=$(mktemp -d)
 trap 'rm -r "$work"' EXIT
+exec 3>&2
 gcc -O2 -o "$work/c" "$top/bench/brickwork.c"
 gcc -O2 -DEACH_SUM -o "$work/each" "$top/bench/brickwork.c"
 
@@ -49,7 +51,7 @@ repeat() {  # so many runs of one of the programs with so many layers
     case $1 in
       ours) "${pinned[@]}" "$program" plain < "$work/text$2" ;;
       *) "${pinned[@]}" "$work/$1" "$qubits" "$2" ;;
-    esac > /dev/null
+    esac > /dev/null || { echo "$1 failed at $qubits wires" >&3; exit 1; }
   done
 }
 
@@ -64,6 +66,21 @@ spent() {  # the time of all layers but one
   echo $((least[$1 $layers] - least[$1 1]))
 }
 
+compare() {  # the scales to which qmpi and the C programs come, where nothing is measured
+  local which ours scale
+  brickwork "$qubits" "$layers" | grep -vE '^( *measure|own) ' > "$work/unmeasured"
+  ours=$("$program" plain < "$work/unmeasured" | awk '$1 == "scale" { print $2 }') || { echo "ours failed at $qubits wires" >&2; exit 1; }
+  for which in c each; do
+    scale=$("$work/$which" "$qubits" "$layers" | awk '$1 == "scale" { print $2 }') || { echo "$which failed at $qubits wires" >&2; exit 1; }
+    if [ -z "$scale" ] || [ "$scale" != "$ours" ]; then
+      echo "at $qubits wires $which comes to scale '$scale', and qmpi to '$ours'" >&2
+      exit 1
+    fi
+  done
+}
+
+qubits=6
+compare
 echo 'wires   C   C, each sum tested   qmpi   ratio'
 for qubits in 10 12 14 16 18; do
   declare -A least=()

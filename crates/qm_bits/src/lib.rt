@@ -7,8 +7,8 @@ ghost use Rattle.qm_bits.specs.Numbers.{number_of_bits};
 #[cfg(test)]
 mod tests;
 
-/// How many classical bits a rank has.
-pub const BITS: usize = 32;
+/// How many classical bits a rank has, as the length of a list.
+pub const BITS: usize = qm_limits::BITS as usize;
 
 /// The number that a rank's bits make, bit 0 the lowest.
 pub fn number_of_bits(bits: &[bool; BITS]) -> u32

@@ -1,5 +1,6 @@
 -- The buffers of the ranks, as a list of sizes and counts
 use Rattle.std.specs.Prelude.{ℕ, ◌≤◌, List, slice_index_or, slice_set}
+use Rattle.qm_limits.specs.declared.TheConstants.{MOST_HALVES}
 use Rattle.qm_buffers.specs.declared.Buffer.{Buffer}
 
 -- a buffer of this size that holds nothing
@@ -14,7 +15,7 @@ buffer_at buffers rank = slice_index_or buffers rank (empty_buffer 0)
 abbrev pub with_held : List Buffer → ℕ → ℕ → List Buffer
 with_held buffers rank held = slice_set buffers rank (record (buffer_at buffers rank) { held = held })
 
--- a buffer of at most 8 places holds no more halves than it has places
+-- a buffer of few places holds no more halves than it has places
 pub record IsWithinSize (b : Buffer) : Type 0 where
   pub held : b.held ≤ b.size
-  pub small : b.size ≤ 8
+  pub small : b.size ≤ MOST_HALVES

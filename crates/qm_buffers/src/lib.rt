@@ -4,16 +4,14 @@
 ghost use Rattle.std.specs.Prelude.{◌≡◌, ◌≢◌, ◌+◌, ◌-◌, ◌<◌, ◌≤◌, ◌⊎◌, ◌↔◌, All, IsTrue, length, map, slice_set};
 ghost use Rattle.qm_buffers.specs.Halves.{buffer_at, empty_buffer, with_held};
 
+use qm_limits::{MOST_HALVES, MOST_RANKS};
 use std::marker::Model;
 
 #[cfg(test)]
 mod tests;
 
-/// The most ranks that have a buffer.
-pub const MOST_RANKS: usize = 16;
-
-/// The most halves that a buffer may hold.
-pub const MOST_HALVES: u8 = 8;
+/// How many ranks there may be, as the length of a list.
+const RANKS: usize = MOST_RANKS as usize;
 
 /// A rank's buffer: how many halves it may hold, and how many it holds.
 #[derive(Clone, Copy, PartialEq, Eq, Debug)]
@@ -25,20 +23,21 @@ pub struct Buffer {
 /// The buffers of the ranks, in the order of their numbers. No buffer holds more halves than its size.
 #[derive(Drop)]
 pub struct Halves {
-    buffers: [Buffer; MOST_RANKS],
+    buffers: [Buffer; RANKS],
     ranks: usize,
 }
 
 impl Model for Halves {
     ghost use Rattle.std.specs.Prelude.{◌≤◌, All, List, take};
     ghost use Rattle.qm_buffers.specs.declared.Buffer.{Buffer};
+    ghost use Rattle.qm_limits.specs.declared.TheConstants.{MOST_RANKS};
     ghost use Rattle.qm_buffers.specs.Halves.{IsWithinSize};
 
     ghost Value = { List Buffer };
 
     ghost view = { λ h. take h.ranks h.buffers };
 
-    ghost invariant = { λ h. (h.ranks ≤ 16) × All IsWithinSize h.buffers };
+    ghost invariant = { λ h. (h.ranks ≤ MOST_RANKS) × All IsWithinSize h.buffers };
 }
 
 impl Halves {
@@ -48,7 +47,7 @@ impl Halves {
         requires sizes { All (λ s. (1 ≤ s) × (s ≤ MOST_HALVES)) sizes.now }
         ensures { result ≡ map empty_buffer sizes.now }
     {
-        let mut buffers = [Buffer { size: 0, held: 0 }; MOST_RANKS];
+        let mut buffers = [Buffer { size: 0, held: 0 }; RANKS];
         for (rank, size) in sizes.iter().enumerate() {
             buffers[rank] = Buffer {
                 size: *size,

@@ -7,13 +7,12 @@ use Rattle.qm_instr.specs.declared.Instr.{Instr}
 use Rattle.qm_instr.specs.declared.Lane.{Lane}
 use Rattle.qm_instr.specs.Counts.{protocol_of, own_of}
 use Rattle.qm_instr.specs.Programs.{Programs, rank_of, IsInRange}
-use Rattle.qm_instr.specs.Lanes.{is_on}
 use Rattle.qm_check.specs.declared.Fault.{Fault}
 use Rattle.qm_check.specs.declared.Fault.TheVariants as fault
 use Rattle.qm_check.specs.declared.Uses.{Uses}
 use Rattle.qm_check.specs.declared.Uses.TheVariants.{Nothing, Fills, Keeps, Empties, Joins}
 use Rattle.qm_check.specs.Checks.{IsReady, Step, Tape}
-use Rattle.qm_check.specs.Messages.{lane_posted, posts_in}
+use Rattle.qm_check.specs.Messages.{posts_on, posts_in}
 use Rattle.qm_check.specs.Operands.{uses_of, partner_of}
 use Rattle.qm_check.specs.Slots.{HasFewSlots, is_full_after, full_after, partner_fault, slot_fault, fault_if_any}
 use Rattle.qm_check.specs.Tapes.{length_fault}
@@ -71,7 +70,7 @@ slots_sound r k full (Joins c t) e = by_same (c == t) refl e
         (eqb-false c t s, both.0, both.1)
 
 pub posts-take-le : (r : ℕ) (a : Lane) (is : List Instr) (k : ℕ) → posts_in r a (take k is) ≤ posts_in r a is
-posts-take-le r a is k = sum_by-take-le (λ i. cond (is_on (lane_posted r i) a) 1 0) is k
+posts-take-le r a is k = sum_by-take-le (λ i. cond (posts_on r i a) 1 0) is k
 
 -- ---- instruction k of rank r
 -- the instructions before it
@@ -87,7 +86,7 @@ pub record IsStep (p : Programs) (r k : ℕ) (i : Instr) : Type 0 where
   pub protocol : sum_by protocol_of (before p r (k + 1)) ≡ sum_by protocol_of (before p r k) + protocol_of i
   pub protocol_few : sum_by protocol_of (before p r (k + 1)) ≤ sum_by protocol_of (rank_of p r).instructions
   pub own : sum_by own_of (before p r (k + 1)) ≡ sum_by own_of (before p r k) + own_of i
-  pub posts : (a : Lane) → posts_in r a (before p r (k + 1)) ≡ posts_in r a (before p r k) + cond (is_on (lane_posted r i) a) 1 0
+  pub posts : (a : Lane) → posts_in r a (before p r (k + 1)) ≡ posts_in r a (before p r k) + cond (posts_on r i a) 1 0
 
 pub step_of : (p : Programs) (r k : ℕ) (i : Instr) → IsReady p → IsInRange p → r < length p.ranks
     → slice_get (rank_of p r).instructions k ≡ Some i → IsStep p r k i
@@ -105,7 +104,7 @@ step_of p r k i ready ranges known read =
       protocol = sum_more protocol_of is k i read;
       protocol_few = sum_by-take-le protocol_of is (k + 1);
       own = sum_more own_of is k i read;
-      posts = λ a. sum_more (λ j. cond (is_on (lane_posted r j) a) 1 0) is k i read;
+      posts = λ a. sum_more (λ j. cond (posts_on r j a) 1 0) is k i read;
     }
 
 -- ---- tapes are as long as their needs

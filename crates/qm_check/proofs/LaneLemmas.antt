@@ -16,7 +16,7 @@ use Rattle.std.proofs.lemmas.Cmp.{tied_itself}
 use Rattle.std.proofs.lemmas.Bool.Decides.{nat_tests}
 use Rattle.std.proofs.lemmas.List.Elements.{All-nil, All-cons}
 use Rattle.qm_instr.specs.declared.Lane.{Lane}
-use Rattle.qm_instr.specs.Lanes.{is_lane}
+use Rattle.qm_instr.specs.Lanes.{code_order, is_lane}
 use Rattle.qm_instr.specs.Programs.{Programs}
 use Rattle.qm_instr.proofs.LaneOrder.{lane_order-derived, lane_order-equal, is_lane-order}
 use Rattle.qm_check.specs.declared.Fault.{Fault}
@@ -24,7 +24,7 @@ use Rattle.qm_check.specs.declared.LaneCount.{LaneCount}
 use Rattle.qm_check.specs.declared.messages.Tally.{Tally}
 use Rattle.qm_check.specs.Faults.{IsFirst}
 use Rattle.qm_check.specs.Messages.{is_back, match_fault, lane_fault, IsLower, listed_sends, IsLaneTable}
-use Rattle.qm_check.specs.Tallies.{code_order, tally, tally_in, lane_tally, first_mismatch, sends_listed}
+use Rattle.qm_check.specs.Tallies.{tally, tally_in, lane_tally, first_mismatch, sends_listed}
 use Rattle.qm_check.proofs.TallyLemmas.{code_order-total, code_order-lane_order, equal_from_test}
 
 -- the tally of a lane in a list of entries

@@ -1,6 +1,7 @@
 pub mod Firsts
 pub mod LaneLemmas
 pub mod Places
+pub mod PostLanes
 pub mod Faultless
 pub mod SlotLemmas
 pub mod TallyLemmas

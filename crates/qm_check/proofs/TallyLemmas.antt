@@ -14,14 +14,15 @@ use Rattle.std.specs.Cmp.{IsTotalOrder}
 use Rattle.std.proofs.Math.Path.{fun_ext}
 use Rattle.qm_instr.specs.declared.Instr.{Instr}
 use Rattle.qm_instr.specs.declared.Lane.{Lane}
-use Rattle.qm_instr.specs.Lanes.{lane_order, is_on}
+use Rattle.qm_instr.specs.Lanes.{code_order, lane_order, is_on}
 use Rattle.qm_instr.proofs.LaneOrder.{lane_order-derived, lane_order-total, is_lane-order}
 use Rattle.qm_check.specs.declared.messages.Tally.{Tally}
 use Rattle.qm_instr.specs.Lanes.{lane_received}
 use Rattle.qm_instr.specs.declared.Instr.TheVariants as instr
 use Rattle.qm_instr.specs.Programs.{Programs, rank_of}
-use Rattle.qm_check.specs.Messages.{lane_posted, posts_in, receives_in, lane_sends, lane_receives}
-use Rattle.qm_check.specs.Tallies.{code_order, tally, tally_in, plus, plus_at, plus_instruction, rank_tally}
+use Rattle.qm_check.specs.Messages.{posts_on, posts_in, receives_in, lane_sends, lane_receives}
+use Rattle.qm_check.proofs.PostLanes.{post_lane, posts_on-lane}
+use Rattle.qm_check.specs.Tallies.{tally, tally_in, plus, plus_at, plus_instruction, rank_tally}
 
 -- the order of the code is that of the fields
 pub code_order-lane_order : code_order ≡ lane_order
@@ -78,7 +79,7 @@ pub rank_tally_more : (m n : BTreeMap Lane Tally) (t : Tally) (r k : ℕ) (is : 
 rank_tally_more m n t r k is i a so_far read noted =
     noted
     ∙ ap (plus_instruction r i a) so_far
-    ∙ plus_flags (is_on (lane_posted r i) a) (is_on (lane_received r i) a) t (rank_tally r (take k is) a) _ _ (count_more (λ (x : Instr). is_on (lane_posted r x) a) is k i read) (count_more (λ (x : Instr). is_on (lane_received r x) a) is k i read)
+    ∙ plus_flags (posts_on r i a) (is_on (lane_received r i) a) t (rank_tally r (take k is) a) _ _ (count_more (λ (x : Instr). posts_on r x a) is k i read) (count_more (λ (x : Instr). is_on (lane_received r x) a) is k i read)
 
 -- a lane's tally over the ranks below n
 abbrev pub tally_below : Programs → ℕ → Lane → Tally
@@ -105,7 +106,7 @@ abbrev IsTo : ℕ → Option Lane → Type 0
 IsTo r None = Unit {0}
 IsTo r (Some b) = b.to ≡ r
 
-posted_from : (r : ℕ) (i : Instr) → IsFrom r (lane_posted r i)
+posted_from : (r : ℕ) (i : Instr) → IsFrom r (post_lane r i)
 posted_from r (instr.SendBit b to tag) = refl
 posted_from r (instr.CopyTo q to tag) = refl
 posted_from r (instr.UndoTo q to tag) = refl
@@ -149,6 +150,6 @@ part_more x n whole here at away =
 pub tally_below_more : (p : Programs) (n : ℕ) (s t : Tally) (a : Lane) → s ≡ tally_below p n a → t ≡ plus s (rank_tally n (rank_of p n).instructions a) → t ≡ tally_below p (n + 1) a
 tally_below_more p n s t a so_far noted =
     let is = (rank_of p n).instructions in
-    let sends : cond (nat_lt a.from n) (lane_sends p a) 0 + posts_in n a is ≡ cond (nat_lt a.from (n + 1)) (lane_sends p a) 0 = part_more a.from n (lane_sends p a) (posts_in n a is) (λ e. ap (λ (r : ℕ). posts_in r a (rank_of p r).instructions) (sym e)) (λ apart. count_none (λ i. is_on (lane_posted n i) a) is (λ i. not_lane_from n (lane_posted n i) a (posted_from n i) apart)) in
+    let sends : cond (nat_lt a.from n) (lane_sends p a) 0 + posts_in n a is ≡ cond (nat_lt a.from (n + 1)) (lane_sends p a) 0 = part_more a.from n (lane_sends p a) (posts_in n a is) (λ e. ap (λ (r : ℕ). posts_in r a (rank_of p r).instructions) (sym e)) (λ apart. count_none (λ i. posts_on n i a) is (λ i. posts_on-lane n i a ∙ not_lane_from n (post_lane n i) a (posted_from n i) apart)) in
     let receives : cond (nat_lt a.to n) (lane_receives p a) 0 + receives_in n a is ≡ cond (nat_lt a.to (n + 1)) (lane_receives p a) 0 = part_more a.to n (lane_receives p a) (receives_in n a is) (λ e. ap (λ (r : ℕ). receives_in r a (rank_of p r).instructions) (sym e)) (λ apart. count_none (λ i. is_on (lane_received n i) a) is (λ i. not_lane_to n (lane_received n i) a (received_to n i) apart)) in
     noted ∙ ap (λ (x : Tally). plus x (rank_tally n is a)) so_far ∙ tally_same _ _ _ _ sends receives

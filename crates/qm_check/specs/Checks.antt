@@ -2,6 +2,7 @@
 use Rattle.std.specs.Prelude.{◌≡◌, ℕ, ◌+◌, ◌<◌, ◌==◌, nat_lt, ◌⊎◌, Bool, if◌then◌else◌, List, sum_by, Option, Some, None}
 use Rattle.qm_instr.specs.declared.Lane.{Lane}
 use Rattle.qm_instr.specs.Programs.{Programs}
+use Rattle.qm_limits.specs.declared.TheConstants.{MOST_CAPACITY, MOST_CAPACITY_1}
 use Rattle.qm_check.specs.declared.Fault.{Fault}
 use Rattle.qm_check.specs.declared.Fault.TheVariants as fault
 use Rattle.qm_check.specs.declared.LaneCount.{LaneCount}
@@ -18,7 +19,7 @@ capacity_of p = sum_by (λ r. r.qubits + r.buffer) p.ranks
 
 -- the largest capacity of a version
 abbrev pub most_capacity : ℕ → ℕ
-most_capacity version = if version == 1 then 20 else 22
+most_capacity version = if version == 1 then MOST_CAPACITY_1 else MOST_CAPACITY
 
 -- the fault of too large a capacity
 abbrev pub width_fault : ℕ → ℕ → Option Fault

@@ -1,6 +1,7 @@
 -- The faults of single instructions: the ranks that they name, and their slots
 use Rattle.std.specs.Prelude.{ℕ, ◌<◌, ◌==◌, nat_lt, Bool, true, false, ◌&&◌, if◌then◌else◌, List, fold, take, Option, Some, None, slice_get, length}
 use Rattle.std.specs.Option.{option_or}
+use Rattle.qm_limits.specs.declared.TheConstants.{SLOTS}
 use Rattle.qm_instr.specs.declared.Instr.{Instr}
 use Rattle.qm_instr.specs.Programs.{Programs, rank_of}
 use Rattle.qm_check.specs.declared.Fault.{Fault}
@@ -9,13 +10,13 @@ use Rattle.qm_check.specs.declared.Uses.{Uses}
 use Rattle.qm_check.specs.declared.Uses.TheVariants.{Nothing, Fills, Keeps, Empties, Joins}
 use Rattle.qm_check.specs.Operands.{uses_of, partner_of}
 
--- each slot is below 16
+-- each slot is one that a rank may have
 abbrev pub HasFewSlots : Uses → Type 0
 HasFewSlots Nothing = Unit {0}
-HasFewSlots (Fills q) = q < 16
-HasFewSlots (Keeps q) = q < 16
-HasFewSlots (Empties q) = q < 16
-HasFewSlots (Joins c t) = (c < 16) × (t < 16)
+HasFewSlots (Fills q) = q < SLOTS
+HasFewSlots (Keeps q) = q < SLOTS
+HasFewSlots (Empties q) = q < SLOTS
+HasFewSlots (Joins c t) = (c < SLOTS) × (t < SLOTS)
 
 -- whether slot q is full after an instruction, by whether it was before
 abbrev pub is_full_after : ℕ → Bool → Uses → Bool
@@ -49,6 +50,7 @@ abbrev pub instruction_fault : ℕ → ℕ → ℕ → (ℕ → Bool) → Instr 
 instruction_fault n r k full i =
     option_or (partner_fault n r k (partner_of i)) (slot_fault r k full (uses_of i))
 
+-- that of an instruction, where there is one
 abbrev pub fault_if_any : ℕ → ℕ → ℕ → (ℕ → Bool) → Option Instr → Option Fault
 fault_if_any n r k full None = None
 fault_if_any n r k full (Some i) = instruction_fault n r k full i

@@ -14,6 +14,7 @@ use crate::slots::fault_of_steps;
 use crate::tapes::fault_of_tapes;
 use crate::{CheckError, Fault, LaneCount, Totals};
 use qm_instr::{Input, Lane};
+use qm_limits::{MOST_CAPACITY, MOST_CAPACITY_1};
 use std::alloc::Global;
 use std::marker::Model;
 
@@ -46,7 +47,7 @@ impl Ready {
         &self.input
     }
 
-    /// The slots and the buffers of all ranks, at most 20 in version 1 and at most 22 in version 2.
+    /// The slots and the buffers of all ranks, at most [`MOST_CAPACITY_1`] in version 1 and at most [`MOST_CAPACITY`] in version 2.
     pub fn capacity(&self) -> u32
         ensures { result ≡ capacity_of self.now }
     {
@@ -97,7 +98,11 @@ fn total_capacity(input: &Input) -> u32
 fn fault_of_width(version: u8, capacity: u32) -> Option<Fault>
     ensures { result ≡ width_fault version capacity }
 {
-    let most = if version == 1 { 20 } else { 22 };
+    let most = if version == 1 {
+        MOST_CAPACITY_1
+    } else {
+        MOST_CAPACITY
+    };
     (capacity > most).then_some(Fault::TooWide { capacity })
 }
 

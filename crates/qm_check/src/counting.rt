@@ -4,7 +4,8 @@ ghost use Rattle.qm_instr.specs.Programs.{rank_of};
 ghost use Rattle.qm_check.specs.Totals.{totals_of, totals_over};
 
 use crate::Totals;
-use qm_instr::{Input, MOST_INSTRUCTIONS, event_count, own_count, protocol_count};
+use qm_instr::{Input, event_count, own_count, protocol_count};
+use qm_limits::{MOST_EVENTS, MOST_INSTRUCTIONS, MOST_PROTOCOL};
 
 impl Totals {
     /// Of no instructions.
@@ -15,12 +16,12 @@ impl Totals {
     };
 }
 
-/// The totals of a rank, which has at most 100,000 instructions.
+/// The totals of a rank, which has at most [`MOST_INSTRUCTIONS`] instructions.
 pub(crate) fn rank_totals(input: &Input, rank: u16) -> Totals
     requires { rank < length input.now.ranks }
     ensures value { result ≡ totals_of (rank_of input.now rank).instructions }
-    ensures events { result.events ≤ 500000 }
-    ensures protocol { result.protocol ≤ 200000 }
+    ensures events { result.events ≤ MOST_EVENTS }
+    ensures protocol { result.protocol ≤ MOST_PROTOCOL }
     ensures own { result.own ≤ MOST_INSTRUCTIONS }
 {
     let mut totals = Totals::NONE;

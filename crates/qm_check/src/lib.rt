@@ -18,7 +18,8 @@ use qm_instr::Lane;
 /// A fault of the programs. `at` counts a rank's instructions from 0.
 #[derive(Clone, Copy, PartialEq, Eq, Debug)]
 pub enum Fault {
-    /// The slots and buffers of all ranks are too many together: above 20 in version 1, above 22 in version 2.
+    /// The slots and buffers of all ranks are too many together: above [`qm_limits::MOST_CAPACITY_1`] in version 1, above
+    /// [`qm_limits::MOST_CAPACITY`] in version 2.
     TooWide {
         capacity: u32,
     },
@@ -65,6 +66,7 @@ pub enum Fault {
 /// Why programs aren't ready.
 #[derive(Clone, Copy, PartialEq, Eq, Debug)]
 pub enum CheckError {
+    /// The programs have a fault, of which this is the first one.
     Fault { fault: Fault },
     /// The allocator has no memory left.
     Memory,

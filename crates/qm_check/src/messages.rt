@@ -1,13 +1,14 @@
 //! How many messages each lane has, and lanes on which sends and receives don't match.
-ghost use Rattle.std.specs.Prelude.{◌≡◌, ◌<◌, ◌≤◌, length, IfOk, OnOk};
+ghost use Rattle.std.specs.Prelude.{◌≡◌, ◌*◌, ◌<◌, ◌≤◌, length, IfOk, OnOk};
 ghost use Rattle.std.specs.BTreeMap.{IsOrdered};
 ghost use Rattle.qm_instr.specs.Programs.{rank_of};
-ghost use Rattle.qm_instr.specs.Lanes.{is_on};
-ghost use Rattle.qm_check.specs.Messages.{lane_posted, match_fault};
-ghost use Rattle.qm_check.specs.Tallies.{code_order, tally, tally_in, plus, plus_at, rank_tally, lane_tally, plus_instruction, IsAtMost, first_mismatch, sends_listed};
+ghost use Rattle.qm_instr.specs.Lanes.{code_order, is_on};
+ghost use Rattle.qm_check.specs.Messages.{posts_on, match_fault};
+ghost use Rattle.qm_check.specs.Tallies.{tally, tally_in, plus, plus_at, rank_tally, lane_tally, plus_instruction, IsAtMost, first_mismatch, sends_listed};
 
 use crate::{Fault, LaneCount};
-use qm_instr::{Input, Instr, Kind, Lane, MOST_INSTRUCTIONS, receive_lane, send_lane};
+use qm_instr::{Input, Instr, Kind, Lane, receive_lane, send_lane};
+use qm_limits::MOST_INSTRUCTIONS;
 use std::alloc::{AllocError, Global};
 use std::collections::BTreeMap;
 
@@ -19,16 +20,19 @@ pub(crate) struct Tally {
 }
 
 impl Tally {
+    /// No message.
     const NONE: Tally = Tally {
         sends: 0,
         receives: 0,
     };
 
+    /// One message sent.
     const SEND: Tally = Tally {
         sends: 1,
         receives: 0,
     };
 
+    /// One message received.
     const RECEIVE: Tally = Tally {
         sends: 0,
         receives: 1,
@@ -40,7 +44,7 @@ pub(crate) type Tallies = BTreeMap<Lane, Tally>;
 
 /// The lane on which an instruction of a rank posts: that of its send, or of its answer to a reach.
 fn posted_lane(rank: u16, i: Instr) -> Option<Lane>
-    ensures { result ≡ lane_posted rank i }
+    ensures { (a : Lane) → is_on result a ≡ posts_on rank i a }
 {
     match i {
         Instr::ReachFrom { from, tag, .. } => Some(Lane {
@@ -55,7 +59,7 @@ fn posted_lane(rank: u16, i: Instr) -> Option<Lane>
 
 /// Adds a message to the tally of its lane, if it has one.
 fn note_message(tallies: &mut Tallies, on: Option<Lane>, more: Tally) -> Result<(), AllocError>
-    requires few { (a : Lane) → IsAtMost 1000000 (tally_in tallies.old a) }
+    requires few { (a : Lane) → IsAtMost (10 * MOST_INSTRUCTIONS) (tally_in tallies.old a) }
     requires one_more { IsAtMost 1 more }
     ensures { OnOk result
         ((a : Lane) → tally_in tallies.new a ≡ plus_at on more a (tally_in tallies.old a)) }
@@ -74,7 +78,7 @@ fn note_message(tallies: &mut Tallies, on: Option<Lane>, more: Tally) -> Result<
 
 /// Adds the messages of an instruction of a rank.
 fn note_instruction(tallies: &mut Tallies, rank: u16, i: Instr) -> Result<(), AllocError>
-    requires { (a : Lane) → IsAtMost 900000 (tally_in tallies.old a) }
+    requires { (a : Lane) → IsAtMost (9 * MOST_INSTRUCTIONS) (tally_in tallies.old a) }
     ensures { OnOk result
         ((a : Lane) → tally_in tallies.new a ≡ plus_instruction rank i a (tally_in tallies.old a)) }
 {

@@ -9,8 +9,8 @@ use crate::operands::{partner, slot_uses};
 use crate::{Fault, Uses};
 use qm_instr::{Input, Instr};
 
-/// How many slots a rank may have.
-const SLOTS: usize = 16;
+/// How many slots a rank may have, as the length of a list.
+const SLOTS: usize = qm_limits::SLOTS as usize;
 
 /// The fault of an instruction by the rank that it names.
 fn fault_of_partner(ranks: u16, rank: u16, at: u32, named: Option<u16>) -> Option<Fault>
@@ -59,7 +59,7 @@ fn fault_of_instruction(
 /// Fills and empties slots as an instruction does.
 fn note_slots(full: &mut [bool; SLOTS], what: Uses)
     requires { HasFewSlots what }
-    ensures { (q : ℕ) → q < 16
+    ensures { (q : ℕ) → q < SLOTS
         → slice_index_or full.new q false ≡ is_full_after q (slice_index_or full.old q false) what }
 {
     match what {

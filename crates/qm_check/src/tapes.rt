@@ -6,11 +6,12 @@ ghost use Rattle.qm_check.specs.Tapes.{length_fault, tape_fault};
 
 use crate::Fault;
 use crate::counting::rank_totals;
-use qm_instr::{Input, MOST_OUTCOMES};
+use qm_instr::Input;
+use qm_limits::{MOST_OUTCOMES, MOST_PROTOCOL};
 
 /// The fault of a tape of which so many outcomes are needed.
 fn fault_of_length(rank: u16, own: bool, needs: u64, tape: &[bool]) -> Option<Fault>
-    requires needs { needs ≤ 200000 }
+    requires needs { needs ≤ MOST_PROTOCOL }
     requires has { length tape.now ≤ MOST_OUTCOMES }
     ensures { result ≡ length_fault rank own needs (length tape.now) }
 {

@@ -37,6 +37,7 @@ met_letters None b v u f = []
 met_letters (Some a) None v u f = []
 met_letters (Some a) (Some b) v u f = if is_lane a b then message_letters a.kind v u f else []
 
+-- the first slot that an instruction names
 abbrev pub slot_in : Instr → ℕ
 slot_in i = slice_index (slots_of i) 0
 
@@ -59,6 +60,7 @@ end_of (Some a) b = Some a.to
 end_of None (Some b) = Some b.from
 end_of None None = None
 
+-- the letters of instruction i of rank r by the rank at its message's other end; without a message, those of a gate
 abbrev pub end_letters : Wiring → (ℕ → List Instr) → ℕ → Instr → Option ℕ → List Letter
 end_letters w programs r i None = gate_letters (w.slot r) i
 end_letters w programs r i (Some s) = flat_map (letters_between w r i s) (programs s)

@@ -12,6 +12,7 @@ pub record Line : Type 0 where
   pub message : ℕ → Instr
   pub elsewhere : Instr
 
+-- the line with these gates and messages of the root, and this instruction elsewhere
 abbrev pub line : List Instr → (ℕ → Instr) → Instr → Line
 line own message elsewhere = record { own = own; message = message; elsewhere = elsewhere }
 
@@ -19,9 +20,11 @@ line own message elsewhere = record { own = own; message = message; elsewhere = 
 abbrev pub scattering : ℕ → ℕ → ℕ → Line
 scattering q root tag = line [] (λ d. instr.MoveTo (q + d) d tag) (instr.MoveFrom q root tag)
 
+-- the root collects the others' qubits, that of rank d into slot q + d
 abbrev pub gathering : ℕ → ℕ → ℕ → Line
 gathering q root tag = line [] (λ d. instr.MoveFrom (q + d) d tag) (instr.MoveTo q root tag)
 
+-- the root's target takes a controlled-not from the root's own qubit and from each other rank's
 abbrev pub reducing : ℕ → ℕ → ℕ → ℕ → Line
 reducing q t root tag = line (instr.Do (gate.Cx q t) ∷ []) (λ d. instr.ReachFrom t d tag) (instr.ReachTo q root tag)
 
@@ -36,6 +39,7 @@ line_of (Ungather q root tag) = scattering q root tag
 line_of (Reduce q t root tag) = reducing q t root tag
 line_of (Unreduce q t root tag) = reducing q t root tag
 
+-- the root of a collective
 abbrev pub root_of : Collective → ℕ
 root_of (Bcast q root tag) = root
 root_of (Unbcast q root tag) = root

@@ -14,6 +14,7 @@ held r q = record { rank = r; made = q; near = false }
 abbrev pub made : ℕ → ℕ → Wire
 made r d = record { rank = r; made = 20 + d; near = false }
 
+-- what each rank has in its slots, and what it sends
 abbrev pub wiring : Wiring
 wiring = record { slot = held; sent = made }
 
@@ -21,6 +22,7 @@ wiring = record { slot = held; sent = made }
 abbrev pub letters : Collective → List Letter
 letters which = collective_letters wiring 3 1 (λ r. which)
 
+-- the letters of each collective
 pub record WorkedCollectives : Type 0 where
   pub bcast : letters (Bcast 4 1 9) ≡ Cx (held 1 4) (made 1 0) ∷ Cx (held 1 4) (made 1 2) ∷ []
   pub unbcast : letters (Unbcast 4 1 9)

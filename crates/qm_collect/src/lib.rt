@@ -12,7 +12,7 @@ mod tests;
 
 /// A collective, as one rank writes it.
 ///
-/// `q` and `t` are slots of the rank, below 16; `root` is the rank that deals out or gathers in, and `tag` is that of the messages.
+/// `q` and `t` are slots of the rank; `root` is the rank that deals out or gathers in, and `tag` is that of the messages.
 #[derive(Clone, Copy, PartialEq, Eq, Debug)]
 pub enum Collective {
     /// Each rank gets an entangled copy of the root's qubit.

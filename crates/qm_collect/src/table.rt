@@ -6,15 +6,16 @@ ghost use Rattle.qm_collect.specs.Table.{root_of, slots_of, line_of, others, ins
 
 use crate::Collective;
 use qm_instr::{Gate, Instr};
+use qm_limits::{MOST_RANKS, SLOTS};
 
-/// How many instructions a rank does in a collective, at most 16.
+/// How many instructions a rank does in a collective, at most [`MOST_RANKS`].
 ///
-/// The rank and the root are below the number of ranks, of which there are at most 16; slots are below 16.
+/// The rank and the root are below the number of ranks, of which there are at most [`MOST_RANKS`]; slots are below [`SLOTS`].
 pub fn count(which: Collective, rank: u16, ranks: u16) -> u32
     requires rank { rank < ranks }
     requires root { root_of which < ranks }
-    requires ranks { ranks ≤ 16 }
-    requires slots { All (λ q. q < 16) (slots_of which) }
+    requires ranks { ranks ≤ MOST_RANKS }
+    requires slots { All (λ q. q < SLOTS) (slots_of which) }
     ensures { result ≡ length (instructions_at which rank ranks) }
 {
     if rank != root(which) {
@@ -29,12 +30,12 @@ pub fn count(which: Collective, rank: u16, ranks: u16) -> u32
 
 /// A rank's instruction number `j` in a collective, from 0. `None` exactly where `j` is not below the count.
 ///
-/// The rank and the root are below the number of ranks, of which there are at most 16; slots are below 16.
+/// The rank and the root are below the number of ranks, of which there are at most [`MOST_RANKS`]; slots are below [`SLOTS`].
 pub fn instr_at(which: Collective, rank: u16, ranks: u16, j: u32) -> Option<Instr>
     requires rank { rank < ranks }
     requires root { root_of which < ranks }
-    requires ranks { ranks ≤ 16 }
-    requires slots { All (λ q. q < 16) (slots_of which) }
+    requires ranks { ranks ≤ MOST_RANKS }
+    requires slots { All (λ q. q < SLOTS) (slots_of which) }
     ensures { result ≡ slice_get (instructions_at which rank ranks) j }
 {
     if rank != root(which) {
@@ -83,8 +84,8 @@ fn own_gate(which: Collective) -> Option<Instr>
 /// The root's message number `j`: to or from rank `j` below the root, and rank `j + 1` from the root on.
 fn message(which: Collective, ranks: u16, j: u32) -> Option<Instr>
     requires root { root_of which < ranks }
-    requires ranks { ranks ≤ 16 }
-    requires slots { All (λ q. q < 16) (slots_of which) }
+    requires ranks { ranks ≤ MOST_RANKS }
+    requires slots { All (λ q. q < SLOTS) (slots_of which) }
     ensures { result ≡ option_map (line_of which).message
         (slice_get (others (root_of which) ranks) j) }
 {
@@ -95,9 +96,9 @@ fn message(which: Collective, ranks: u16, j: u32) -> Option<Instr>
 /// The `j`-th of the ranks but the root, from 0.
 fn other(root: u16, ranks: u16, j: u32) -> Option<u16>
     requires root { root < ranks }
-    requires ranks { ranks ≤ 16 }
+    requires ranks { ranks ≤ MOST_RANKS }
     ensures value { result ≡ slice_get (others root ranks) j }
-    ensures below { IfSome result (λ d. d < 16) }
+    ensures below { IfSome result (λ d. d < MOST_RANKS) }
 {
     if j < u32::from(root) {
         Some(j as u16)
@@ -110,8 +111,8 @@ fn other(root: u16, ranks: u16, j: u32) -> Option<u16>
 
 /// The root's message to or from rank `d`.
 fn message_with(which: Collective, d: u16) -> Instr
-    requires rank { d < 16 }
-    requires slots { All (λ q. q < 16) (slots_of which) }
+    requires rank { d < MOST_RANKS }
+    requires slots { All (λ q. q < SLOTS) (slots_of which) }
     ensures { result ≡ (line_of which).message d }
 {
     match which {
@@ -137,8 +138,8 @@ fn message_with(which: Collective, d: u16) -> Instr
 
 /// The root's slot for the qubit of rank `d`.
 fn dealt_slot(q: u8, d: u16) -> u8
-    requires slot { q < 16 }
-    requires rank { d < 16 }
+    requires slot { q < SLOTS }
+    requires rank { d < MOST_RANKS }
     ensures { result ≡ q + d }
 {
     q + d as u8

@@ -5,13 +5,14 @@ ghost use Rattle.qm_collect.specs.Table.{root_of, slots_of};
 
 use crate::{Collective, count, instr_at};
 use qm_instr::{Gate, Instr};
+use qm_limits::{MOST_RANKS, SLOTS};
 
 /// A rank has just these instructions.
 fn does(which: Collective, rank: u16, ranks: u16, wanted: &[Instr]) -> bool
     requires rank { rank < ranks }
     requires root { root_of which < ranks }
-    requires ranks { ranks ≤ 16 }
-    requires slots { All (λ q. q < 16) (slots_of which) }
+    requires ranks { ranks ≤ MOST_RANKS }
+    requires slots { All (λ q. q < SLOTS) (slots_of which) }
     requires few { length wanted.now < 100 }
 {
     for j in 0..wanted.len() {

@@ -6,6 +6,7 @@ use Rattle.qm_denot.specs.declared.Letter.{Letter}
 abbrev pub Tagged : Type 0 → Type 0
 Tagged K = List (K × Letter)
 
+-- the letters without their keys
 abbrev pub letters_of : {K : Type 0} → Tagged K → List Letter
 letters_of [] = []
 letters_of (t ∷ ts) = t.1 ∷ letters_of ts

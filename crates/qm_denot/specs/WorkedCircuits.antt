@@ -31,6 +31,7 @@ f = record { rank = 0; made = 1; near = false }
 abbrev t : Wire
 t = record { rank = 1; made = 0; near = false }
 
+-- the numbers 0 and 1
 abbrev O : Number
 O = zero_number
 
@@ -41,6 +42,7 @@ I = one_number
 abbrev sum : ℕ → ℕ → Number
 sum a b = number (pos a) (pos b) (pos 0) (pos 0)
 
+-- the whole state vectors of small circuits, and their halvings
 pub record WorkedCircuits : Type 0 where
   -- nothing done: all qubits are zero
   pub empty : Shows [] (q ∷ []) (I ∷ O ∷ []) 0

@@ -1,6 +1,7 @@
 //! The plain store: its numerators in one list, and every letter a plain loop from one list into another.
 ghost use Rattle.std.specs.Prelude.{◌≡◌, ◌≤◌, ◌^◌, length};
 ghost use Rattle.std.specs.Vec.{vec_capacity};
+ghost use Rattle.qm_limits.specs.declared.TheConstants.{MOST_CAPACITY};
 ghost use Rattle.qm_denot.specs.Sound.{Keeps, Keeps-prop};
 
 pub(crate) mod branches;
@@ -16,6 +17,7 @@ use crate::plain::rules::{Rule, rewrite};
 use crate::plain::vectors::{double, fill_had, reduce};
 use crate::plain::wires::{index_at, place_of};
 use crate::{Letter, Wire};
+use qm_limits::MOST_CAPACITY;
 use qm_zomega::Zw;
 use std::alloc::{AllocError, Global};
 use std::mem;
@@ -31,13 +33,13 @@ pub struct PlainAmps {
     numerators: Vec<Zw>,
     spare: Vec<Zw>,
     exponent: u64,
-    ghost small: { capacity ≤ 22 },
+    ghost small: { capacity ≤ MOST_CAPACITY },
     ghost few: { length live.items ≤ capacity },
     ghost live_room: { capacity ≤ vec_capacity live },
     ghost size: { length numerators.items ≡ 2 ^ length live.items },
     ghost room: { 2 ^ capacity ≤ vec_capacity numerators },
     ghost spare_room: { 2 ^ capacity ≤ vec_capacity spare },
-    ghost kept: { Keeps live.items numerators.items exponent } by { Keeps-prop live.items numerators.items exponent },
+    ghost kept: { Keeps live.items numerators.items exponent } by { Keeps-prop _ _ _ },
 }
 
 impl PlainAmps {
@@ -49,7 +51,7 @@ impl PlainAmps {
     ///
     /// All memory is taken here, and `AllocError` comes only for want of it.
     pub fn start(alloc: Global, capacity: u32) -> Result<PlainAmps, AllocError>
-        requires { capacity ≤ 22 }
+        requires { capacity ≤ MOST_CAPACITY }
         ensures stands { IfOk result (λ s. StandsFor (⟦<PlainAmps as Amps>⟧.store s) []) }
         ensures live { IfOk result (λ s. (⟦<PlainAmps as Amps>⟧.store s).live ≡ []) }
         ensures capacity { IfOk result (λ s. (⟦<PlainAmps as Amps>⟧.store s).capacity ≡ capacity) }
@@ -66,6 +68,7 @@ impl PlainAmps {
         })
     }
 
+    /// Multiplies the numerators where `w` is one by omega^`k`.
     fn phase(&mut self, k: u8, w: Wire)
         requires may { MayApply (Letter.Phase k w) (⟦<PlainAmps as Amps>⟧.store self.old) }
         ensures { Does (Letter.Phase k w) (⟦<PlainAmps as Amps>⟧.store self.old)
@@ -79,6 +82,7 @@ impl PlainAmps {
         );
     }
 
+    /// Exchanges the branches of `w`.
     fn flip(&mut self, w: Wire)
         requires may { MayApply (Letter.Flip w) (⟦<PlainAmps as Amps>⟧.store self.old) }
         ensures { Does (Letter.Flip w) (⟦<PlainAmps as Amps>⟧.store self.old)
@@ -88,6 +92,7 @@ impl PlainAmps {
         rewrite(Rule::Flip { place }, &mut self.numerators, &mut self.spare);
     }
 
+    /// Exchanges the branches of `t` where `c` is one.
     fn cx(&mut self, c: Wire, t: Wire)
         requires may { MayApply (Letter.Cx c t) (⟦<PlainAmps as Amps>⟧.store self.old) }
         ensures { Does (Letter.Cx c t) (⟦<PlainAmps as Amps>⟧.store self.old)
@@ -102,6 +107,7 @@ impl PlainAmps {
         );
     }
 
+    /// Changes the sign where both are one.
     fn cz(&mut self, c: Wire, t: Wire)
         requires may { MayApply (Letter.Cz c t) (⟦<PlainAmps as Amps>⟧.store self.old) }
         ensures { Does (Letter.Cz c t) (⟦<PlainAmps as Amps>⟧.store self.old)
@@ -116,6 +122,7 @@ impl PlainAmps {
         );
     }
 
+    /// Keeps the branches where `w` is `m`; the others are zero.
     fn keep(&mut self, w: Wire, m: bool)
         requires may { MayApply (Letter.Keep w m) (⟦<PlainAmps as Amps>⟧.store self.old) }
         ensures { Does (Letter.Keep w m) (⟦<PlainAmps as Amps>⟧.store self.old)
@@ -130,6 +137,7 @@ impl PlainAmps {
         self.exponent = reduce(&mut self.numerators, self.exponent);
     }
 
+    /// Puts the sum and the difference of each two branches that differ in `w` alone in their stead, unless one leaves the range.
     fn had(&mut self, w: Wire) -> Result<(), Overflow>
         requires may { MayApply (Letter.Had w) (⟦<PlainAmps as Amps>⟧.store self.old) }
         ensures does { OnOk result (Does (Letter.Had w) (⟦<PlainAmps as Amps>⟧.store self.old)
@@ -146,6 +154,7 @@ impl PlainAmps {
         Ok(())
     }
 
+    /// Makes `a` and `b` live as an EPR pair.
     fn pair(&mut self, a: Wire, b: Wire)
         requires may { MayApply (Letter.Pair a b) (⟦<PlainAmps as Amps>⟧.store self.old) }
         ensures { Does (Letter.Pair a b) (⟦<PlainAmps as Amps>⟧.store self.old)
@@ -158,6 +167,7 @@ impl PlainAmps {
         self.exponent = reduce(&mut self.numerators, self.exponent + 1);
     }
 
+    /// Keeps the branches where `w` is `m`, after which it isn't live any more.
     fn take(&mut self, w: Wire, m: bool)
         requires may { MayApply (Letter.Take w m) (⟦<PlainAmps as Amps>⟧.store self.old) }
         ensures { Does (Letter.Take w m) (⟦<PlainAmps as Amps>⟧.store self.old)
@@ -173,6 +183,7 @@ impl PlainAmps {
         self.exponent = reduce(&mut self.numerators, self.exponent);
     }
 
+    /// Makes `b` live in the place of `a`.
     fn rename(&mut self, a: Wire, b: Wire)
         requires may { MayApply (Letter.Rename a b) (⟦<PlainAmps as Amps>⟧.store self.old) }
         ensures { Does (Letter.Rename a b) (⟦<PlainAmps as Amps>⟧.store self.old)

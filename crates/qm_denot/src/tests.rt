@@ -108,7 +108,7 @@ fn branches<A: Amps>(amps: &A, v: Wire, w: Wire) -> Option<[bool; 4]>
 }
 
 #[test]
-fn amplitudes_worked_by_hand(rt: HostRuntime) -> Result<(), Fail> {
+fn amplitudes_are_as_worked_by_hand(rt: HostRuntime) -> Result<(), Fail> {
     let had = Letter::Had { w: Q };
     let turn = Letter::Phase { k: 1, w: Q };
     let pair = Letter::Pair { a: E, b: F };
@@ -184,13 +184,36 @@ fn amplitudes_worked_by_hand(rt: HostRuntime) -> Result<(), Fail> {
             "after {letters:?}"
         );
     }
-    let mut copied = PlainAmps::start(rt.alloc(), 3)?;
-    run(
-        &rt,
-        &mut copied,
-        &[Q],
-        &[had, pair, parity, Letter::Take { w: E, m: false }],
-    );
-    assert_eq!(rt; branches(&copied, Q, F), Some([true, true, false, true]));
+    Ok(())
+}
+
+#[test]
+fn answers_about_branches_are_as_worked_by_hand(rt: HostRuntime) -> Result<(), Fail> {
+    let pair = Letter::Pair { a: E, b: F };
+    let copy = [
+        Letter::Had { w: Q },
+        pair,
+        Letter::Cx { c: Q, t: E },
+        Letter::Take { w: E, m: false },
+    ];
+    // the letters, the wire that the first wire is compared with, and the answers about it
+    let cases = [
+        (&copy[..], F, [true, true, false, true]),
+        (&[pair][..], E, [true, false, true, false]),
+        (
+            &[pair, Letter::Flip { w: Q }][..],
+            E,
+            [false, true, false, false],
+        ),
+    ];
+    for (letters, other, answers) in cases {
+        let mut amps = PlainAmps::start(rt.alloc(), 3)?;
+        run(&rt, &mut amps, &[Q], letters);
+        assert_eq!(rt;
+            branches(&amps, Q, other),
+            Some(answers),
+            "after {letters:?}"
+        );
+    }
     Ok(())
 }

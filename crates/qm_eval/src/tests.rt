@@ -7,6 +7,7 @@ use qm_check::check;
 use qm_denot::{Amps, PlainAmps, Wire};
 use qm_ideal::mono;
 use qm_instr::{Gate, Input, Instr, OneGate};
+use qm_limits::MOST_CAPACITY;
 use std::alloc::{AllocError, Global};
 use std::process::Abort;
 use std::test::Fail;
@@ -77,7 +78,7 @@ fn evaluated(
     input: Input,
     width: u32,
 ) -> Result<Result<PlainAmps, LetterOverflow>, Fail>
-    requires { width ≤ 22 }
+    requires { width ≤ MOST_CAPACITY }
 {
     let ready = check(alloc, input)?;
     let circuit = mono(alloc, &ready)?;
@@ -239,7 +240,7 @@ fn the_first_letter_that_leaves_the_range_is_told(rt: HostRuntime) -> Result<(),
     let alloc = rt.alloc();
     let within = evaluated(&rt, alloc, turning_input(alloc, 507)?, 1)?;
     assert!(rt; within.is_ok());
-    let past = evaluated(&rt, alloc, turning_input(alloc, 510)?, 1)?;
+    let past = evaluated(&rt, alloc, turning_input(alloc, 508)?, 1)?;
     assert_eq!(rt; past.err(), Some(LetterOverflow { at: 1014 }));
     Ok(())
 }

@@ -6,6 +6,7 @@ ghost use Rattle.qm_eval.specs.Live.{HasRoomFor, MakesLive};
 
 use qm_denot::{Amps, Letter, Wire};
 use qm_ideal::OneCircuit;
+use qm_limits::SLOTS;
 
 /// Whether a wire is live.
 pub(crate) fn is_live<A: Amps>(amps: &A, w: Wire) -> bool
@@ -56,11 +57,11 @@ pub(crate) fn make_operands_live<A: Amps>(amps: &mut A, letter: Letter)
 /// Makes the wires live that stand in a rank's slots at the circuit's end.
 pub(crate) fn make_slots_live<A: Amps>(amps: &mut A, circuit: &OneCircuit, rank: u16)
     requires able { A.able }
-    requires room { HasRoomFor (wires_below (slot_of circuit.now rank) 16) (A.store amps.old) }
-    ensures { MakesLive (wires_below (slot_of circuit.now rank) 16)
+    requires room { HasRoomFor (wires_below (slot_of circuit.now rank) SLOTS) (A.store amps.old) }
+    ensures { MakesLive (wires_below (slot_of circuit.now rank) SLOTS)
         (A.store amps.old) (A.store amps.new) }
 {
-    for q in 0..16 {
+    for q in 0..SLOTS {
         if let Some(wire) = circuit.slot(rank, q) {
             make_live(amps, wire);
         }

@@ -16,7 +16,7 @@ use Rattle.qm_expand.specs.Steps.{Outcome, ◌>>=◌}
 use Rattle.qm_expand.specs.Values.{Scope, no_values, expr_value, call_values}
 use Rattle.qm_expand.specs.Table.{made, gate_made}
 use Rattle.qm_expand.specs.Drafts.{Draft, with_each, with_turn}
-use Rattle.qm_expand.specs.declared.made.Made.TheVariants as makes
+use Rattle.qm_expand.specs.declared.made.Operation.TheVariants as operation
 use Rattle.qm_expand.specs.Expansion.{Lines, with_made_by, under, done, done_under, each_turn, turn_count, inside, body_expanded, stmt_expanded}
 use Rattle.qm_expand.specs.Walk.{Bytes, Valued, Gathered, value_at, gathered_all, gated_by, gated, finished, called_by, called, stepped, own_len, walk}
 use Rattle.qm_expand.proofs.StepLemmas.{bind-assoc, bind-same}
@@ -24,7 +24,7 @@ use Rattle.qm_expand.proofs.SignLemmas.{Says, says-at, says-split}
 use Rattle.qm_expand.proofs.ExprWalk.{operand-valued, gathered-values}
 
 -- ---- instructions
-when-made : (a : Action) (s w : ℕ → ℕ) → takes_gate a ≡ true → made a s w ≡ makes.Nothing
+when-made : (a : Action) (s w : ℕ → ℕ) → takes_gate a ≡ true → made a s w ≡ operation.Nothing
 when-made action.When s w e = refl
 when-made a s w e = cc
 

@@ -1,5 +1,6 @@
 -- The expansion of a source tree to the programs of all ranks. A part's first token has a number, for the lines of its faults
 use Rattle.std.specs.Prelude.{ℕ, zero, suc, ◌+◌, ℤ, pos, negsuc, ◌+ℤ◌, ◌-ℤ◌, nat_lt, Bool, ◌&&◌, if◌then◌else◌, List, [], ◌∷◌, ◌++◌, length, replicate, slice_index, Option, Some, None, Ok, Err}
+use Rattle.qm_limits.specs.declared.TheConstants.{SLOTS}
 use Rattle.qm_instr.specs.declared.Gate.{Gate}
 use Rattle.qm_instr.specs.declared.Instr.{Instr}
 use Rattle.qm_instr.specs.declared.Instr.TheVariants as instr
@@ -8,8 +9,8 @@ use Rattle.qm_collect.specs.declared.Collective.{Collective}
 use Rattle.qm_collect.specs.Table.{instructions_at, root_of, slots_of}
 use Rattle.qm_parse.specs.Trees.{Call, Body, Nothing, Then, Stmt, Do, DoUnder, For, Blocks, ForAll, ForEach, TapeLine, Program}
 use Rattle.qm_parse.specs.Spelling.{expr_signs, stmt_signs, body_signs}
-use Rattle.qm_expand.specs.declared.made.Made.{Made}
-use Rattle.qm_expand.specs.declared.made.Made.TheVariants as makes
+use Rattle.qm_expand.specs.declared.made.Operation.{Operation}
+use Rattle.qm_expand.specs.declared.made.Operation.TheVariants as operation
 use Rattle.qm_expand.specs.Steps.{Outcome, ◌>>=◌, OutOfRange}
 use Rattle.qm_expand.specs.Values.{Scope, expr_value, call_values}
 use Rattle.qm_expand.specs.Table.{made, gate_made}
@@ -20,21 +21,24 @@ abbrev pub Lines : Type 0
 Lines = ℕ → ℕ
 
 -- ---- instructions
--- a collective's root is one of the ranks, and its slots are below 16 (its operands were tested one by one before)
+-- a collective's root is one of the ranks, and its slots are ones that a rank may have (its operands were tested one by one before)
 abbrev pub can_be_called : ℕ → Collective → Bool
-can_be_called ranks c = nat_lt (root_of c) ranks && all_below 16 (slots_of c)
+can_be_called ranks c = nat_lt (root_of c) ranks && all_below SLOTS (slots_of c)
 
-abbrev pub instructions_made : ℕ → Scope → Made → Outcome (List Instr)
-instructions_made line s (makes.Core i) = Ok (i ∷ [])
-instructions_made line s (makes.Shared c) = if can_be_called s.ranks c then Ok (instructions_at c s.rank s.ranks) else Err (OutOfRange line)
-instructions_made line s makes.Nothing = Ok []
+-- the instructions of an operation at a rank
+abbrev pub instructions_made : ℕ → Scope → Operation → Outcome (List Instr)
+instructions_made line s (operation.Core i) = Ok (i ∷ [])
+instructions_made line s (operation.Shared c) =
+    if can_be_called s.ranks c then Ok (instructions_at c s.rank s.ranks) else Err (OutOfRange line)
+instructions_made line s operation.Nothing = Ok []
 
 -- a gate under a bit
 abbrev pub under : ℕ → Option Gate → List Instr
 under b None = []
 under b (Some g) = instr.When b g ∷ []
 
-abbrev pub with_made_by : ℕ → Scope → Draft → Made → Outcome Draft
+-- a draft with an operation's instructions at a rank
+abbrev pub with_made_by : ℕ → Scope → Draft → Operation → Outcome Draft
 with_made_by line s d m = instructions_made line s m >>= λ is. with_each line s.rank is d
 
 -- an instruction or a collective: first all its operands, then what it makes

@@ -1,7 +1,7 @@
 -- Each text has one reading
 use Rattle.std.specs.Prelude.{◌≡◌, ◌≢◌, ◌≤◌, ℕ, List, length, Result, Err}
 use Rattle.qm_instr.specs.Programs.{Programs}
-use Rattle.qm_lex.specs.declared.lexer.TheConstants.{MOST_BYTES}
+use Rattle.qm_limits.specs.declared.TheConstants.{MOST_BYTES}
 use Rattle.qm_expand.specs.declared.ReadError.{ReadError}
 use Rattle.qm_expand.specs.declared.ReadError.TheVariants as errors
 use Rattle.qm_expand.specs.Reading.{Reads}
@@ -17,6 +17,6 @@ pub record Reading (text : List ℕ) : Type 0 where
   pub known : answer ≢ Err errors.Memory
   pub reads : Reads text answer
 
--- each text of at most 1,048,576 bytes has one
+-- each text that isn't too long has one
 abbrev pub SomeReading : Type 0
 SomeReading = (text : List ℕ) → length text ≤ MOST_BYTES → Reading text

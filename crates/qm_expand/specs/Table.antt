@@ -6,8 +6,8 @@ use Rattle.qm_instr.specs.declared.Instr.TheVariants as instr
 use Rattle.qm_collect.specs.declared.Collective.TheVariants as collective
 use Rattle.qm_parse.specs.declared.words.Action.{Action}
 use Rattle.qm_parse.specs.declared.words.Action.TheVariants as action
-use Rattle.qm_expand.specs.declared.made.Made.{Made}
-use Rattle.qm_expand.specs.declared.made.Made.TheVariants.{Core, Shared, Nothing}
+use Rattle.qm_expand.specs.declared.made.Operation.{Operation}
+use Rattle.qm_expand.specs.declared.made.Operation.TheVariants.{Core, Shared, Nothing}
 
 -- a gate, by its word and its slots
 abbrev pub gate_made : Action → (ℕ → ℕ) → Option Gate
@@ -16,9 +16,9 @@ gate_made action.Cx s = Some (gate.Cx (s 0) (s 1))
 gate_made action.Cz s = Some (gate.Cz (s 0) (s 1))
 gate_made _ s = None
 
--- what a word makes of its operands: s has the slots, bits and truth values from left to right, and w the ranks and tags. `when` makes
--- nothing by itself
-abbrev pub made : Action → (s w : ℕ → ℕ) → Made
+-- the operation that a word makes of its operands: s has the slots, bits and truth values from left to right, and w the ranks and tags.
+-- `when` makes nothing by itself
+abbrev pub made : Action → (s w : ℕ → ℕ) → Operation
 made action.Alloc s w = Core (instr.Alloc (s 0))
 made action.Free s w = Core (instr.Free (s 0))
 made (action.One g) s w = Core (instr.Do (gate.One g (s 0)))

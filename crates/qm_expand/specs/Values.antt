@@ -1,6 +1,7 @@
 -- The values of expressions. An expression is evaluated from left to right, and the first fault decides
 use Rattle.std.specs.Prelude.{ℕ, ℤ, pos, negsuc, ◌+ℤ◌, ◌-ℤ◌, ◌*ℤ◌, int_div, int_rem, unsigned_abs, nat_le, nat_lt, nat_eq, List, [], ◌∷◌, ◌++◌, fold, if◌then◌else◌, Option, Some, None, Ok, Err}
 use Rattle.std.specs.Str.{bytes_eq}
+use Rattle.qm_limits.specs.declared.TheConstants.{LARGEST_VALUE, BITS, PEERS, TAGS}
 use Rattle.qm_parse.specs.declared.tree.What.{What}
 use Rattle.qm_parse.specs.declared.tree.What.TheVariants as what
 use Rattle.qm_parse.specs.declared.words.Operand.{Operand}
@@ -29,7 +30,7 @@ bound names name = fold (λ found b. if bytes_eq b.name name then Some b.value e
 
 -- an intermediate result, which may not leave the range
 abbrev pub ranged : ℕ → ℤ → Outcome ℤ
-ranged line z = if nat_le (unsigned_abs z) 2147483647 then Ok z else Err (OutOfRange line)
+ranged line z = if nat_le (unsigned_abs z) LARGEST_VALUE then Ok z else Err (OutOfRange line)
 
 -- what an operator makes of its sides: nothing where it divides by zero. A quotient is truncated towards zero, and the rest has the sign
 -- of the left side
@@ -41,13 +42,16 @@ result_of what.Over a b = if nat_eq (unsigned_abs b) 0 then None else Some (int_
 result_of what.Rest a b = if nat_eq (unsigned_abs b) 0 then None else Some (int_rem a b)
 result_of _ a b = None
 
+-- what becomes of a result, or what there is in its stead
 abbrev pub known : (A : Type 0) → A → (ℤ → A) → Option ℤ → A
 known A none some None = none
 known A none some (Some z) = some z
 
+-- the value of an operator, which may neither divide by zero nor leave the range
 abbrev pub computed : ℕ → What → ℤ → ℤ → Outcome ℤ
 computed line op a b = known (Outcome ℤ) (Err (OutOfRange line)) (ranged line) (result_of op a b)
 
+-- the value of a name, which some loop around it must have
 abbrev pub named : ℕ → Scope → List ℕ → Outcome ℤ
 named line s name = known (Outcome ℤ) (Err (UnknownName line)) (ranged line) (bound s.names name)
 
@@ -79,12 +83,13 @@ abbrev mutual
 -- each operand is below its limit
 abbrev pub limit : Scope → Operand → ℕ
 limit s operand.Slot = s.qubits
-limit s operand.Bit = 32
+limit s operand.Bit = BITS
 limit s operand.Truth = 2
-limit s operand.Peer = 65536
+limit s operand.Peer = PEERS
 limit s operand.Root = s.ranks
-limit s operand.Tag = 65536
+limit s operand.Tag = TAGS
 
+-- an operand with this value, which may not be negative and must be below a limit
 abbrev pub within : ℕ → ℕ → ℤ → Outcome ℕ
 within line most (pos n) = if nat_lt n most then Ok n else Err (OutOfRange line)
 within line most (negsuc n) = Err (OutOfRange line)
@@ -94,6 +99,7 @@ pub record Values : Type 0 where
   pub small : List ℕ
   pub wide : List ℕ
 
+-- no operand yet
 abbrev pub no_values : Values
 no_values = record { small = []; wide = [] }
 
@@ -113,5 +119,6 @@ operands_values line s (k ∷ ks) [] v = Ok v
 operands_values line s (k ∷ ks) (e ∷ es) v =
     expr_value line s e >>= λ z. within line (limit s k) z >>= λ n. operands_values line s ks es (with_value k n v)
 
+-- the operands of a call
 abbrev pub call_values : ℕ → Scope → Call → Outcome Values
 call_values line s c = operands_values line s (operands_of c.verb) c.operands no_values

@@ -45,6 +45,7 @@ scope_in c = scope_of c.scope (names_in c.text.now (token_list c.tokens.now) c.n
 abbrev pub widest : values.Scope
 widest = record { rank = 0; ranks = 65535; qubits = 255; names = [] }
 
+-- a value, and how many nodes it has
 abbrev pub value_seen : Valued → walk.Valued
 value_seen v = record { value = v.value; used = v.used }
 
@@ -53,8 +54,10 @@ abbrev pub IsPushed : List ℤ → Result ℤ ReadError → Outcome (List ℤ) �
 IsPushed left (Ok z) o = o ≡ Ok (z ∷ left)
 IsPushed left (Err e) o = walk.Fails e o
 
+-- operands, and how many nodes they have
 abbrev pub operands_seen : Operands → walk.Gathered
 operands_seen o = record { values = record { small = o.small.items; wide = o.wide.items }; used = o.used }
 
+-- the programs as far as they are expanded, and the turns of the loops
 abbrev pub draft_seen : Draft → drafts.Draft
 draft_seen d = record { programs = d.input; turns = d.turns }

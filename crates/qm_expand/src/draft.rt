@@ -7,11 +7,9 @@ use crate::ReadError;
 use crate::ranges::{can_be_called, has_operands};
 use crate::values::Scope;
 use qm_collect::{Collective, count, instr_at};
-use qm_instr::{Input, Instr, MOST_INSTRUCTIONS, MOST_OUTCOMES};
+use qm_instr::{Input, Instr};
+use qm_limits::{MOST_HALVES, MOST_INSTRUCTIONS, MOST_OUTCOMES, MOST_RANKS, MOST_TURNS, SLOTS};
 use std::alloc::{AllocError, Global};
-
-/// How many turns the loops of all ranks may have together.
-const MOST_TURNS: u32 = 1_000_000;
 
 /// The programs as far as they are expanded, and how many turns all loops have had.
 #[derive(Drop)]
@@ -38,11 +36,11 @@ impl Draft {
         buffer: u8,
     ) -> Result<Draft, AllocError>
         requires some_ranks { 1 ≤ ranks }
-        requires few_ranks { ranks ≤ 16 }
+        requires few_ranks { ranks ≤ MOST_RANKS }
         requires some_qubits { 1 ≤ qubits }
-        requires few_qubits { qubits ≤ 16 }
+        requires few_qubits { qubits ≤ SLOTS }
         requires some_buffer { 1 ≤ buffer }
-        requires small_buffer { buffer ≤ 8 }
+        requires small_buffer { buffer ≤ MOST_HALVES }
         ensures { IfOk result (λ d. draft_seen d ≡ draft (sized_programs ranks qubits buffer) 0) }
     {
         let mut input = Input::start(alloc, 1, ranks)?;

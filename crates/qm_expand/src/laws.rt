@@ -7,7 +7,7 @@ pub fn one_reading()
     ensures { OneReading }
 {}
 
-/// A text of at most 1,048,576 bytes reads as programs, or is refused.
+/// A text of at most [`qm_limits::MOST_BYTES`] bytes reads as programs, or is refused.
 pub fn some_reading()
     ensures { SomeReading }
 {}

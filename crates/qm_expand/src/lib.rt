@@ -13,6 +13,7 @@ mod walk;
 mod words;
 
 pub use laws::{one_reading, some_reading};
+pub use made::Operation;
 pub use reading::read;
 
 #[cfg(test)]
@@ -29,24 +30,25 @@ pub enum ReadError {
     /// A token that may not stand there, or a number outside the range of its place.
     #[error("line {line}: a token that may not stand there")]
     Unexpected { line: u32 },
-    /// A number above 2,147,483,647 where a number may stand.
+    /// A number above [`qm_limits::LARGEST_VALUE`] where a number may stand.
     #[error("line {line}: a number that is too large")]
     NumberTooLarge { line: u32 },
-    /// A `{` or a `(` where one may stand, but 32 are open.
+    /// A `{` or a `(` where one may stand, but [`qm_limits::MOST_OPEN`] are open.
     #[error("line {line}: too many open braces and parentheses")]
     TooDeep { line: u32 },
-    /// The text ends before the program does.
+    /// The text ends before the program does. Its line is one more than the text's line feeds.
     #[error("line {line}: the text ends too early")]
     Unended { line: u32 },
     /// A name that no loop around it has.
     #[error("line {line}: a name that no loop has")]
     UnknownName { line: u32 },
-    /// An intermediate result outside plus or minus 2,147,483,647, a division by zero, or an operand outside its range.
+    /// An intermediate result of a size above [`qm_limits::LARGEST_VALUE`], a division by zero, or an operand outside its range.
     #[error("line {line}: a value outside its range")]
     OutOfRange { line: u32 },
-    /// The 100,001st instruction, or the 1,000,001st turn of a loop, over all ranks.
+    /// An instruction after [`qm_limits::MOST_INSTRUCTIONS`] of all ranks, or a turn of a loop after [`qm_limits::MOST_TURNS`].
     #[error("line {line}: too many instructions or turns of loops")]
     TooMany { line: u32 },
+    /// The allocator has no memory left.
     #[error("out of memory")]
     Memory,
 }

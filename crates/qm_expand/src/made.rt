@@ -8,19 +8,19 @@ use qm_collect::Collective;
 use qm_instr::{Gate, Instr};
 use qm_parse::Action;
 
-/// What a word makes of its operands.
-#[derive(Clone, Copy)]
-pub(crate) enum Made {
-    /// One instruction.
+/// What a written instruction or collective stands for, once its operands have values: what its word makes of them.
+#[derive(Clone, Copy, Debug, PartialEq, Eq)]
+pub enum Operation {
+    /// One instruction of the rank in whose body it stands.
     Core(Instr),
-    /// The instructions of a collective at this rank.
+    /// A collective: the rank does the instructions that are its own part of it.
     Shared(Collective),
-    /// Nothing by itself.
+    /// Nothing by itself. A `when` is so: it makes an instruction only together with the gate that follows it.
     Nothing,
 }
 
-/// What a word makes of its operands.
-pub(crate) fn make(action: Action, operands: &Operands) -> Made
+/// The operation that a word makes of its operands.
+pub(crate) fn make(action: Action, operands: &Operands) -> Operation
     ensures { result ≡ made action (slice_index operands.now.small.items)
         (slice_index operands.now.wide.items) }
 {
@@ -29,56 +29,56 @@ pub(crate) fn make(action: Action, operands: &Operands) -> Made
     let peer = wide(operands, 0);
     let tag = wide(operands, 1);
     match action {
-        Action::Alloc => Made::Core(Instr::Alloc { q }),
-        Action::Free => Made::Core(Instr::Free { q }),
-        Action::One(g) => Made::Core(Instr::Do {
+        Action::Alloc => Operation::Core(Instr::Alloc { q }),
+        Action::Free => Operation::Core(Instr::Free { q }),
+        Action::One(g) => Operation::Core(Instr::Do {
             g: Gate::One { g, q },
         }),
-        Action::Cx => Made::Core(Instr::Do {
+        Action::Cx => Operation::Core(Instr::Do {
             g: Gate::Cx { c: q, t },
         }),
-        Action::Cz => Made::Core(Instr::Do {
+        Action::Cz => Operation::Core(Instr::Do {
             g: Gate::Cz { c: q, t },
         }),
-        Action::Measure => Made::Core(Instr::Measure { q, b: t }),
-        Action::Set => Made::Core(Instr::Set { b: q, v: t == 1 }),
-        Action::Xor => Made::Core(Instr::Xor { b: q, c: t }),
-        Action::When => Made::Nothing,
-        Action::SendBit => Made::Core(Instr::SendBit {
+        Action::Measure => Operation::Core(Instr::Measure { q, b: t }),
+        Action::Set => Operation::Core(Instr::Set { b: q, v: t == 1 }),
+        Action::Xor => Operation::Core(Instr::Xor { b: q, c: t }),
+        Action::When => Operation::Nothing,
+        Action::SendBit => Operation::Core(Instr::SendBit {
             b: q,
             to: peer,
             tag,
         }),
-        Action::RecvBit => Made::Core(Instr::RecvBit {
+        Action::RecvBit => Operation::Core(Instr::RecvBit {
             b: q,
             from: peer,
             tag,
         }),
-        Action::CopyTo => Made::Core(Instr::CopyTo { q, to: peer, tag }),
-        Action::CopyFrom => Made::Core(Instr::CopyFrom { q, from: peer, tag }),
-        Action::UndoTo => Made::Core(Instr::UndoTo { q, to: peer, tag }),
-        Action::UndoFrom => Made::Core(Instr::UndoFrom { q, from: peer, tag }),
-        Action::MoveTo => Made::Core(Instr::MoveTo { q, to: peer, tag }),
-        Action::MoveFrom => Made::Core(Instr::MoveFrom { q, from: peer, tag }),
-        Action::ReachTo => Made::Core(Instr::ReachTo { q, to: peer, tag }),
-        Action::ReachFrom => Made::Core(Instr::ReachFrom {
+        Action::CopyTo => Operation::Core(Instr::CopyTo { q, to: peer, tag }),
+        Action::CopyFrom => Operation::Core(Instr::CopyFrom { q, from: peer, tag }),
+        Action::UndoTo => Operation::Core(Instr::UndoTo { q, to: peer, tag }),
+        Action::UndoFrom => Operation::Core(Instr::UndoFrom { q, from: peer, tag }),
+        Action::MoveTo => Operation::Core(Instr::MoveTo { q, to: peer, tag }),
+        Action::MoveFrom => Operation::Core(Instr::MoveFrom { q, from: peer, tag }),
+        Action::ReachTo => Operation::Core(Instr::ReachTo { q, to: peer, tag }),
+        Action::ReachFrom => Operation::Core(Instr::ReachFrom {
             t: q,
             from: peer,
             tag,
         }),
-        Action::Bcast => Made::Shared(Collective::Bcast { q, root: peer, tag }),
-        Action::Unbcast => Made::Shared(Collective::Unbcast { q, root: peer, tag }),
-        Action::Scatter => Made::Shared(Collective::Scatter { q, root: peer, tag }),
-        Action::Gather => Made::Shared(Collective::Gather { q, root: peer, tag }),
-        Action::Unscatter => Made::Shared(Collective::Unscatter { q, root: peer, tag }),
-        Action::Ungather => Made::Shared(Collective::Ungather { q, root: peer, tag }),
-        Action::Reduce => Made::Shared(Collective::Reduce {
+        Action::Bcast => Operation::Shared(Collective::Bcast { q, root: peer, tag }),
+        Action::Unbcast => Operation::Shared(Collective::Unbcast { q, root: peer, tag }),
+        Action::Scatter => Operation::Shared(Collective::Scatter { q, root: peer, tag }),
+        Action::Gather => Operation::Shared(Collective::Gather { q, root: peer, tag }),
+        Action::Unscatter => Operation::Shared(Collective::Unscatter { q, root: peer, tag }),
+        Action::Ungather => Operation::Shared(Collective::Ungather { q, root: peer, tag }),
+        Action::Reduce => Operation::Shared(Collective::Reduce {
             q,
             t,
             root: peer,
             tag,
         }),
-        Action::Unreduce => Made::Shared(Collective::Unreduce {
+        Action::Unreduce => Operation::Shared(Collective::Unreduce {
             q,
             t,
             root: peer,

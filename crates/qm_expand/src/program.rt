@@ -15,6 +15,7 @@ use crate::walk::{after, body, first_of, own_len, upto};
 use crate::words::{bytes, line};
 use qm_instr::Input;
 use qm_lex::Tokens;
+use qm_limits::{MOST_HALVES, MOST_RANKS, SLOTS};
 use qm_parse::{Node, What};
 use std::alloc::Global;
 
@@ -73,7 +74,12 @@ fn expand_sized(
 fn are_sizes(ranks: u32, qubits: u32, buffer: u32) -> bool
     ensures { result ≡ are_sizes ranks qubits buffer }
 {
-    1 <= ranks && ranks <= 16 && 1 <= qubits && qubits <= 16 && 1 <= buffer && buffer <= 8
+    1 <= ranks
+        && ranks <= u32::from(MOST_RANKS)
+        && 1 <= qubits
+        && qubits <= u32::from(SLOTS)
+        && 1 <= buffer
+        && buffer <= u32::from(MOST_HALVES)
 }
 
 /// Expands the blocks of all ranks, and says how many nodes they have.
@@ -201,6 +207,7 @@ fn append_tape(
     draft.append(line, is_own(first.what), rank.value as u16, digits(word))
 }
 
+/// Whether a tape's line is that of an own tape.
 fn is_own(what: What) -> bool
     ensures { result ≡ is_own what }
 {

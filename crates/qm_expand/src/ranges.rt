@@ -7,8 +7,9 @@ ghost use Rattle.qm_expand.specs.Expansion.{can_be_called};
 
 use qm_collect::Collective;
 use qm_instr::{Gate, Instr};
+use qm_limits::{BITS, SLOTS};
 
-/// Whether each slot of an instruction is below the rank's, and each bit below 32.
+/// Whether each slot of an instruction is below the rank's, and each bit below [`BITS`].
 pub(crate) fn has_operands(qubits: u8, i: Instr) -> bool
     ensures value { result ≡ has_operands qubits i }
     ensures told { IsTrue result → HasOperands qubits i }
@@ -25,10 +26,10 @@ pub(crate) fn has_operands(qubits: u8, i: Instr) -> bool
         | Instr::ReachTo { q, .. }
         | Instr::ReachFrom { t: q, .. } => q < qubits,
         Instr::Do { g } => has_slots(qubits, g),
-        Instr::When { b, g } => has_slots(qubits, g) && b < 32,
-        Instr::Measure { q, b } => q < qubits && b < 32,
-        Instr::Xor { b, c } => b < 32 && c < 32,
-        Instr::Set { b, .. } | Instr::SendBit { b, .. } | Instr::RecvBit { b, .. } => b < 32,
+        Instr::When { b, g } => has_slots(qubits, g) && b < BITS,
+        Instr::Measure { q, b } => q < qubits && b < BITS,
+        Instr::Xor { b, c } => b < BITS && c < BITS,
+        Instr::Set { b, .. } | Instr::SendBit { b, .. } | Instr::RecvBit { b, .. } => b < BITS,
     }
 }
 
@@ -42,7 +43,7 @@ fn has_slots(qubits: u8, g: Gate) -> bool
     }
 }
 
-/// Whether a collective's root is one of the ranks, and its slots are below 16.
+/// Whether a collective's root is one of the ranks, and its slots are below [`SLOTS`].
 pub(crate) fn can_be_called(ranks: u16, which: Collective) -> bool
     ensures { result ≡ can_be_called ranks which }
 {
@@ -52,9 +53,9 @@ pub(crate) fn can_be_called(ranks: u16, which: Collective) -> bool
         | Collective::Scatter { q, root, .. }
         | Collective::Gather { q, root, .. }
         | Collective::Unscatter { q, root, .. }
-        | Collective::Ungather { q, root, .. } => root < ranks && q < 16,
+        | Collective::Ungather { q, root, .. } => root < ranks && q < SLOTS,
         Collective::Reduce { q, t, root, .. } | Collective::Unreduce { q, t, root, .. } => {
-            root < ranks && q < 16 && t < 16
+            root < ranks && q < SLOTS && t < SLOTS
         }
     }
 }

@@ -11,12 +11,13 @@ ghost use Rattle.qm_expand.specs.Walk.{Answers};
 use crate::ReadError;
 use crate::program::expand;
 use qm_instr::Input;
-use qm_lex::{LexError, MOST_BYTES, Tokens, lex};
+use qm_lex::{LexError, Tokens, lex};
+use qm_limits::MOST_BYTES;
 use qm_parse::{Node, ParseError, Tree, parse};
 use std::alloc::Global;
 
-/// The programs of all ranks that a text of at most 1,048,576 bytes gives, or the first fault: of its bytes, then of its grammar, then of
-/// its expansion. `Memory` comes only where memory runs out.
+/// The programs of all ranks that a text of at most [`MOST_BYTES`] bytes gives, or the first fault: of its bytes, then of its grammar,
+/// then of its expansion. `Memory` comes only where memory runs out.
 pub fn read(alloc: Global, text: &[u8]) -> Result<Input, ReadError>
     requires { length text.now ≤ MOST_BYTES }
     ensures { Reads text.now result }

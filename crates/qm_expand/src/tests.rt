@@ -2,7 +2,7 @@
 
 use crate::{ReadError, read};
 use qm_instr::{Gate, Input, Instr, OneGate};
-use qm_lex::MOST_BYTES;
+use qm_limits::MOST_BYTES;
 use std::test::Fail;
 
 /// The programs of a text.
@@ -54,6 +54,7 @@ fn one(g: OneGate) -> Instr {
 fn each_word_is_its_instruction(rt: HostRuntime) -> Result<(), Fail> {
     let (q, b, to, from, tag) = (3, 31, 65_535, 400, 65_535);
     let cx = Gate::Cx { c: 3, t: 4 };
+    let cz = Gate::Cz { c: 3, t: 4 };
     for (text, wanted) in [
         ("alloc 3", Instr::Alloc { q }),
         ("free 3", Instr::Free { q }),
@@ -65,11 +66,13 @@ fn each_word_is_its_instruction(rt: HostRuntime) -> Result<(), Fail> {
         ("t 3", one(OneGate::T)),
         ("tdg 3", one(OneGate::Tdg)),
         ("cx 3 4", Instr::Do { g: cx }),
+        ("cz 3 4", Instr::Do { g: cz }),
         ("measure 3 31", Instr::Measure { q, b }),
         ("set 31 1", Instr::Set { b, v: true }),
         ("set 31 0", Instr::Set { b, v: false }),
         ("xor 31 4", Instr::Xor { b, c: 4 }),
         ("when 31 cx 3 4", Instr::When { b, g: cx }),
+        ("when 31 cz 3 4", Instr::When { b, g: cz }),
         ("sendbit 31 65535 65535", Instr::SendBit { b, to, tag }),
         ("recvbit 31 400 65535", Instr::RecvBit { b, from, tag }),
         ("copyto 3 65535 65535", Instr::CopyTo { q, to, tag }),
@@ -138,6 +141,7 @@ fn bodies_are_expanded(rt: HostRuntime) -> Result<(), Fail> {
     ] {
         let input = programs(&rt, one_rank(&rt, body)?.as_bytes())?;
         let found = program(&rt, &input, 0)?;
+        assert!(rt; !found.is_empty(), "at {body}");
         let spelled = programs(&rt, one_rank(&rt, wanted)?.as_bytes())?;
         assert_eq!(rt; found, program(&rt, &spelled, 0)?, "at {body}");
     }
@@ -229,6 +233,7 @@ fn collectives_are_expanded(rt: HostRuntime) -> Result<(), Fail> {
         let input = programs(&rt, three_ranks(&rt, body)?.as_bytes())?;
         for rank in 0..3 {
             let found = program(&rt, &input, rank)?;
+            assert!(rt; !found.is_empty(), "at {body}");
             let spelled = one_rank(&rt, wanted[rank as usize])?;
             let spelled = programs(&rt, spelled.as_bytes())?;
             assert_eq!(rt; found, program(&rt, &spelled, 0)?, "at {body}");
@@ -238,7 +243,7 @@ fn collectives_are_expanded(rt: HostRuntime) -> Result<(), Fail> {
 }
 
 #[test]
-fn faults_of_expansion(rt: HostRuntime) -> Result<(), Fail> {
+fn the_first_fault_of_a_body_is_told_with_its_line(rt: HostRuntime) -> Result<(), Fail> {
     for (body, line) in [
         ("alloc j", 2),
         ("for i in i..3 { }", 2),
@@ -295,7 +300,7 @@ fn faults_of_expansion(rt: HostRuntime) -> Result<(), Fail> {
 }
 
 #[test]
-fn faults_of_ranks(rt: HostRuntime) -> Result<(), Fail> {
+fn a_fault_of_any_rank_is_found(rt: HostRuntime) -> Result<(), Fail> {
     for (body, line) in [
         // a slot that the expansion makes
         ("\nscatter\n11 1 7", 3),
@@ -328,7 +333,7 @@ fn after_instructions(rt: &HostRuntime, count: u32, body: &str) -> Result<String
 }
 
 #[test]
-fn a_hundred_thousand_instructions(rt: HostRuntime) -> Result<(), Fail> {
+fn a_hundred_thousand_instructions_are_the_most(rt: HostRuntime) -> Result<(), Fail> {
     let most = 100_000;
     for (count, body, wanted) in [
         (most, "", None),
@@ -375,7 +380,7 @@ fn after_turns(rt: &HostRuntime, count: u32, body: &str) -> Result<String, Fail>
 }
 
 #[test]
-fn a_million_turns(rt: HostRuntime) -> Result<(), Fail> {
+fn a_million_turns_are_the_most(rt: HostRuntime) -> Result<(), Fail> {
     let most = 1_000_000;
     for (count, body, wanted) in [
         (most, "", None),
@@ -414,7 +419,7 @@ fn a_million_turns(rt: HostRuntime) -> Result<(), Fail> {
 }
 
 #[test]
-fn sizes_and_tapes(rt: HostRuntime) -> Result<(), Fail> {
+fn sizes_and_tapes_are_read(rt: HostRuntime) -> Result<(), Fail> {
     let text =
         b"qmpi 01 ranks 2 qubits 9 buffer 7 # $ \xff\xfe\x80 end\nall end own 1 b01 protocol 1 b own 0 b1 own 1 b1 protocol 1 b00";
     let input = programs(&rt, text)?;
@@ -423,18 +428,18 @@ fn sizes_and_tapes(rt: HostRuntime) -> Result<(), Fail> {
         let sizes = (input.qubits(rank), input.buffer(rank), input.count(rank));
         assert_eq!(rt; sizes, (9, 7, 0));
     }
-    if input.ranks() > 1 {
-        assert_eq!(rt; input.own(0), [true].as_slice());
-        assert_eq!(rt; input.own(1), [false, true, true].as_slice());
-        assert_eq!(rt; input.protocol(0).len(), 0);
-        assert_eq!(rt; input.protocol(1), [false, false].as_slice());
-    }
+    assert!(rt; input.ranks() > 1);
+    assert_eq!(rt; input.own(0), [true].as_slice());
+    assert_eq!(rt; input.own(1), [false, true, true].as_slice());
+    assert_eq!(rt; input.protocol(0).len(), 0);
+    assert_eq!(rt; input.protocol(1), [false, false].as_slice());
     Ok(())
 }
 
-/// Bytes go before the grammar, and the grammar before the expansion.
 #[test]
-fn faults_of_whole_texts(rt: HostRuntime) -> Result<(), Fail> {
+fn bytes_go_before_the_grammar_and_the_grammar_before_the_expansion(
+    rt: HostRuntime,
+) -> Result<(), Fail> {
     for (text, wanted) in [
         ("qmpi 3", ReadError::Unexpected { line: 1 }),
         ("qmpi 3\n$", ReadError::BadByte { line: 2 }),

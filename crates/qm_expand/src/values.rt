@@ -8,11 +8,9 @@ ghost use Rattle.qm_expand.specs.Views.{AreWords, words_of, scope_in, scope_of, 
 use crate::ReadError;
 use crate::words::bytes;
 use qm_lex::Tokens;
+use qm_limits::{BITS, LARGEST_VALUE, PEERS, TAGS};
 use qm_parse::{Node, Operand, What};
 use std::alloc::Global;
-
-/// The largest absolute value of an intermediate result.
-const MOST: u128 = 2_147_483_647;
 
 /// The rank that is expanded, the number of ranks, and the rank's slots.
 #[derive(Clone, Copy)]
@@ -150,7 +148,7 @@ fn result_of(op: What, left: i64, right: i64) -> Option<i128>
 fn ranged(line: u32, value: i128) -> Result<i64, ReadError>
     ensures { Answers (λ z. z) result (ranged line value) }
 {
-    if value.unsigned_abs() <= MOST {
+    if value.unsigned_abs() <= u128::from(LARGEST_VALUE) {
         Ok(value as i64)
     } else {
         Err(ReadError::OutOfRange { line })
@@ -176,9 +174,10 @@ pub(crate) fn limit(scope: Scope, kind: Operand) -> u32
 {
     match kind {
         Operand::Slot => u32::from(scope.qubits),
-        Operand::Bit => 32,
+        Operand::Bit => u32::from(BITS),
         Operand::Truth => 2,
         Operand::Root => u32::from(scope.ranks),
-        Operand::Peer | Operand::Tag => 65_536,
+        Operand::Peer => PEERS,
+        Operand::Tag => TAGS,
     }
 }

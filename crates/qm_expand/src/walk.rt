@@ -7,7 +7,7 @@ ghost use Rattle.qm_expand.specs.Views.{AreWords, words_of, word_lines, scope_in
 
 use crate::ReadError;
 use crate::draft::Draft;
-use crate::made::{Made, gate_made, make, small};
+use crate::made::{Operation, gate_made, make, small};
 use crate::operands::gather;
 use crate::values::{Binding, Context, Valued, value};
 use crate::words::{line, verb};
@@ -245,9 +245,9 @@ fn call(
     let line = line(context.tokens, node.token);
     let found = gather(alloc, context, line, verb.operands, own)?;
     match make(verb.action, &found) {
-        Made::Core(i) => draft.add(line, context.scope.rank, i),
-        Made::Shared(which) => draft.share(line, context.scope, which),
-        Made::Nothing => {
+        Operation::Core(i) => draft.add(line, context.scope.rank, i),
+        Operation::Shared(which) => draft.share(line, context.scope, which),
+        Operation::Nothing => {
             let bit = small(&found, 0);
             let rest = &own[found.used..];
             call_gate(alloc, context, line, bit, rest, draft)

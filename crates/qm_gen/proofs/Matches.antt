@@ -9,7 +9,8 @@ use Rattle.qm_instr.specs.declared.Instr.{Instr}
 use Rattle.qm_instr.specs.declared.Lane.{Lane}
 use Rattle.qm_instr.specs.Lanes.{is_lane, is_on, lane_received}
 use Rattle.qm_instr.proofs.LaneOrder.{same_lane}
-use Rattle.qm_check.specs.Messages.{lane_posted, posts_in, receives_in, is_back}
+use Rattle.qm_check.specs.Messages.{posts_in, receives_in, is_back}
+use Rattle.qm_check.proofs.PostLanes.{post_lane, posts_in-lane}
 use Rattle.qm_gen.proofs.Growth.{repeated}
 
 -- ---- the lanes that instructions name
@@ -35,20 +36,20 @@ none_by f a (i ∷ is) h =
 -- those of so many ranks, from this one on
 abbrev pub lanes_from : (ℕ → List Instr) → ℕ → ℕ → List Lane
 lanes_from prog r zero = []
-lanes_from prog r (suc n) = lanes_by (lane_posted r) (prog r) ++ (lanes_by (lane_received r) (prog r) ++ lanes_from prog (r + 1) n)
+lanes_from prog r (suc n) = lanes_by (post_lane r) (prog r) ++ (lanes_by (lane_received r) (prog r) ++ lanes_from prog (r + 1) n)
 
 -- a rank of these names no lane but these
 none_from : (prog : ℕ → List Instr) (a : Lane) (r n s : ℕ) → r ≤ s → s < r + n → among a (lanes_from prog r n) ≡ false
-    → (among a (lanes_by (lane_posted s) (prog s)) ≡ false) × (among a (lanes_by (lane_received s) (prog s)) ≡ false)
+    → (among a (lanes_by (post_lane s) (prog s)) ≡ false) × (among a (lanes_by (lane_received s) (prog s)) ≡ false)
 none_from prog a r zero s low high h = absurd (omega arith)
 none_from prog a r (suc n) s low high h =
-    let posted : List Lane = lanes_by (lane_posted r) (prog r) in
+    let posted : List Lane = lanes_by (post_lane r) (prog r) in
     let received : List Lane = lanes_by (lane_received r) (prog r) in
     let rest : List Lane = lanes_from prog (r + 1) n in
     let p = or_parts (among a posted) (among a (received ++ rest)) (sym (list_any-append (λ b. is_lane b a) posted (received ++ rest)) ∙ h) in
     let q = or_parts (among a received) (among a rest) (sym (list_any-append (λ b. is_lane b a) received rest) ∙ p.1) in
     ⊎_elim
-    (λ same. subst (λ k. (among a (lanes_by (lane_posted k) (prog k)) ≡ false) × (among a (lanes_by (lane_received k) (prog k)) ≡ false)) same (p.0, q.0))
+    (λ same. subst (λ k. (among a (lanes_by (post_lane k) (prog k)) ≡ false) × (among a (lanes_by (lane_received k) (prog k)) ≡ false)) same (p.0, q.0))
     (λ other. none_from prog a (r + 1) n s (omega (arith, other)) (omega arith) q.1)
     (first_or_later r s low)
   where
@@ -81,7 +82,7 @@ each_even prog n none all a = by_hit (among a (lanes_from prog 0 n)) refl
   where
     no_posts : among a (lanes_from prog 0 n) ≡ false → posts_of prog a ≡ 0
     no_posts h =
-        ⊎_elim (λ known. none_by (lane_posted a.from) a (prog a.from) (none_from prog a 0 n a.from (omega arith) (omega arith) h).0)
+        ⊎_elim (λ known. posts_in-lane a.from a (prog a.from) ∙ none_by (post_lane a.from) a (prog a.from) (none_from prog a 0 n a.from (omega arith) (omega arith) h).0)
         (λ past. ap (posts_in a.from a) (none a.from past)) (cases_lt a.from n)
 
     no_receives : among a (lanes_from prog 0 n) ≡ false → receives_of prog a ≡ 0

@@ -11,7 +11,7 @@ use Rattle.qm_instr.specs.Lanes.{is_on, lane_received}
 use Rattle.qm_instr.specs.Programs.{RankProgram, Programs, rank_of}
 use Rattle.qm_check.specs.declared.Fault.TheVariants as fault
 use Rattle.qm_check.specs.Checks.{capacity_of, width_fault, Width, Step, Between, Tape, IsReady}
-use Rattle.qm_check.specs.Messages.{lane_posted, is_back, lane_sends, lane_receives, match_fault, lane_fault}
+use Rattle.qm_check.specs.Messages.{posts_on, is_back, lane_sends, lane_receives, match_fault, lane_fault}
 use Rattle.qm_check.specs.Slots.{full_after, fault_if_any, step_fault}
 use Rattle.qm_check.specs.Tapes.{length_fault}
 use Rattle.qm_gen.proofs.Deeds.{Deed, instr_of, Part}
@@ -89,7 +89,7 @@ past-part ps r past = get_or_past ps r nothing past
 
 posts-are : (size : ℕ) (ps : List Part) (p : Programs) (a : Lane) → Runs size ps p → lane_sends p a ≡ posts_of (once_at ps) a + size * posts_of (again_at ps) a
 posts-are size ps p a runs =
-    let f : Instr → ℕ = λ i. cond (is_on (lane_posted a.from i) a) 1 0 in
+    let f : Instr → ℕ = λ i. cond (posts_on a.from i a) 1 0 in
     ap (sum_by f) (runs.programs a.from) ∙ sum_by-append f (once_at ps a.from) (repeated size (again_at ps a.from)) ∙ ap (λ k. sum_by f (once_at ps a.from) + k) (sum-repeated f size (again_at ps a.from))
 
 receives-are : (size : ℕ) (ps : List Part) (p : Programs) (a : Lane) → Runs size ps p → lane_receives p a ≡ receives_of (once_at ps) a + size * receives_of (again_at ps) a

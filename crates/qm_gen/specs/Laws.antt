@@ -2,7 +2,7 @@
 use Rattle.std.specs.Prelude.{ℕ, ◌≤◌, List, length, Ok}
 use Rattle.qm_instr.specs.Programs.{Programs, IsInRange}
 use Rattle.qm_check.specs.Checks.{IsReady}
-use Rattle.qm_lex.specs.declared.lexer.TheConstants.{MOST_BYTES}
+use Rattle.qm_limits.specs.declared.TheConstants.{MOST_BYTES}
 use Rattle.qm_expand.specs.Reading.{Reads}
 use Rattle.qm_gen.specs.declared.GenKind.{GenKind}
 use Rattle.qm_seed.specs.Seeds.{seed_words}

@@ -8,6 +8,7 @@ use Rattle.qm_gen.specs.Outcomes.{skipped, outcomes}
 use Rattle.qm_gen.specs.Sizes.{ranks_of}
 
 -- ---- lines
+-- lines without their line feeds
 abbrev pub Lines : Type 0
 Lines = List (List ℕ)
 
@@ -34,6 +35,7 @@ numbers from zero = []
 numbers from (suc n) = from ∷ numbers (from + 1) n
 
 -- ---- ring: a qubit goes round four ranks, SIZE times
+-- rank 0 makes the qubit and begins; each rank takes it from the one before it, and gives it to the next
 abbrev pub ring_body : ℕ → ℕ → Lines
 ring_body size rank =
     if rank == 0
@@ -48,9 +50,11 @@ ring_body size rank =
 abbrev pub children : ℕ → ℕ → List ℕ
 children size rank = filter (λ c. nat_lt c size) ((2 * rank + 1) ∷ (2 * rank + 2) ∷ [])
 
+-- a copy to each of these ranks
 abbrev pub copy_lines : List ℕ → Lines
 copy_lines cs = map (λ c. numbered (codes "copyto 0 ") c (codes " 1")) cs
 
+-- each rank but rank 0 takes its copy from the rank above it, and each gives one to the ranks below it
 abbrev pub ghz_body : ℕ → ℕ → Lines
 ghz_body size rank =
     (if rank == 0
@@ -59,6 +63,7 @@ ghz_body size rank =
     ++ copy_lines (children size rank)
 
 -- ---- parity: rank 0 measures the parity of three qubits, SIZE times
+-- rank 0's qubit takes a controlled-not from that of each other rank, and is flipped where the outcome is one
 abbrev pub parity_body : ℕ → ℕ → Lines
 parity_body size rank =
     if rank == 0
@@ -69,15 +74,18 @@ parity_body size rank =
     else (codes "alloc 0" ∷ loop size (codes "h 0" ∷ codes "reachto 0 0 1" ∷ []))
 
 -- ---- the programs of all ranks
+-- the lines of a rank's instructions
 abbrev pub body_of : GenKind → ℕ → ℕ → Lines
 body_of Ring size rank = ring_body size rank
 body_of Ghz size rank = ghz_body size rank
 body_of Parity size rank = parity_body size rank
 
+-- the block of a rank
 abbrev pub rank_lines : GenKind → ℕ → ℕ → Lines
 rank_lines kind size rank =
     numbered (codes "rank ") rank [] ∷ (body_of kind size rank ++ codes "end" ∷ [])
 
+-- the head: so many ranks, each with one slot and a buffer of one
 abbrev pub head_lines : ℕ → Lines
 head_lines ranks =
     codes "qmpi 1" ∷ numbered (codes "ranks ") ranks [] ∷ codes "qubits 1" ∷ codes "buffer 1" ∷ []
@@ -95,9 +103,11 @@ protocol_len Ring size rank = 2 * size
 protocol_len Ghz size rank = length (children size rank)
 protocol_len Parity size rank = if rank == 0 then 3 * size else size
 
+-- how many outcomes a tape has, the own or the protocol one
 abbrev pub tape_len : GenKind → ℕ → Bool → ℕ → ℕ
 tape_len kind size own rank = if own then own_len kind size rank else protocol_len kind size rank
 
+-- a tape: of which kind and rank it is, and how many outcomes it has
 pub record Tape : Type 0 where
   pub own : Bool
   pub rank : ℕ
@@ -136,9 +146,11 @@ drawn_lines [] w = []
 drawn_lines (t ∷ ts) w = tape_lines t.own t.rank (outcomes t.len w) ++ drawn_lines ts (skipped t.len w)
 
 -- ---- the text
+-- the lines before those of the tapes
 abbrev pub program_lines : GenKind → ℕ → Lines
 program_lines kind size =
     let ranks = ranks_of kind size in head_lines ranks ++ flat_map (rank_lines kind size) (numbers 0 ranks)
 
+-- the whole text: the head, the ranks' blocks, the tapes
 abbrev pub made_text : GenKind → ℕ → Words → List ℕ
 made_text kind size words = lines_text (program_lines kind size ++ drawn_lines (tapes kind size) words)

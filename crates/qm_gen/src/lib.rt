@@ -47,7 +47,8 @@ impl GenKind {
     ghost use Rattle.std.specs.Prelude.{◌↔◌, IsTrue};
     ghost use Rattle.qm_gen.specs.Sizes.{IsSize};
 
-    /// Whether programs of this kind have this size: a ring 1 to 10,000, a GHZ state 2 to 10, a parity 1 to 9,000.
+    /// Whether programs of this kind have this size: a ring [`LEAST_RING`] to [`MOST_RING`], a GHZ state [`LEAST_GHZ`] to [`MOST_GHZ`],
+    /// a parity [`LEAST_PARITY`] to [`MOST_PARITY`].
     pub fn has_size(self, size: u32) -> bool
         ensures { IsTrue result ↔ IsSize self size }
     {
@@ -63,7 +64,8 @@ impl GenKind {
 /// drawn in the order in which they stand in the text. It is read without a fault, and its programs are ready. `AllocError` comes from
 /// the allocator alone.
 ///
-/// A ring's size is 1 to 10,000, a GHZ state's 2 to 10, a parity's 1 to 9,000.
+/// A ring's size is [`LEAST_RING`] to [`MOST_RING`], a GHZ state's [`LEAST_GHZ`] to [`MOST_GHZ`], a parity's [`LEAST_PARITY`] to
+/// [`MOST_PARITY`].
 pub fn make(alloc: Global, kind: GenKind, size: u32, number: u64) -> Result<Vec<u8>, AllocError>
     requires { IsSize kind size }
     ensures text { IfOk result (λ text. text.items ≡ made_text kind size (seed_words number)) }

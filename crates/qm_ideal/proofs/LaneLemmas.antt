@@ -6,12 +6,13 @@ use Rattle.std.specs.declared.alloc.Global.{Global}
 use Rattle.std.specs.declared.collections.VecDeque.{VecDeque}
 use Rattle.qm_instr.specs.declared.Lane.{Lane}
 use Rattle.qm_instr.proofs.LaneOrder.{lane_order-derived, lane_order-equal}
-use Rattle.qm_check.specs.Tallies.{code_order}
+use Rattle.qm_instr.specs.Lanes.{code_order}
 use Rattle.qm_check.proofs.TallyLemmas.{equal_from_test}
 use Rattle.qm_proto.specs.Model.State.{with_lane}
 use Rattle.qm_proto.proofs.Changes.{by_lane}
 use Rattle.qm_ideal.specs.declared.lanes.Lanes.{Lanes}
-use Rattle.qm_ideal.specs.Lanes.{items_in, lanes_of, last_set}
+use Rattle.qm_ideal.specs.Lanes.{items_in, lanes_of}
+use Rattle.qm_ideal.specs.Meetings.{last_set}
 
 -- a lane that the map finds is the one that it looks for
 same_by_code : (a b : Lane) → is_at (code_order a) b ≡ true → a ≡ b

@@ -9,7 +9,7 @@ pub mod NumberLemmas
 pub mod OneCircuitLemmas
 pub mod RoomLemmas
 pub mod RunBounds
-pub mod RunsExist
+pub mod MeetingWork
 pub mod MeetingLemmas
 pub mod LineLemmas
 pub mod MeetingRuns

@@ -20,9 +20,8 @@ use Rattle.qm_proto.specs.Model.Schedules.{with_buffer_of_one, with_buffers_of_o
 use Rattle.qm_proto.specs.Model.State.{Part, Tables, with_at, with_lane, no_parcel}
 use Rattle.qm_proto.proofs.Changes.{by_lane, by_number, with_at-here, with_at-elsewhere}
 use Rattle.qm_proto.proofs.Positions.{all_at_kept, all_stage_kept}
-use Rattle.qm_ideal.specs.Lanes.{last_set}
 use Rattle.qm_runs.specs.Stuck.Shapes.{moves, Shape, shape_of}
-use Rattle.qm_ideal.specs.Meetings.{Stand, has_bits, stand_of, lanes_after, shape_in, shape_next, is_wanted_at, rule_holds, shape_holds, may_go, gone, go}
+use Rattle.qm_ideal.specs.Meetings.{Stand, has_bits, stand_of, last_set, lanes_after, shape_in, shape_next, is_wanted_at, rule_holds, shape_holds, may_go, gone, go}
 use Rattle.qm_runs.proofs.Stuck.Rendezvous.{one_rank, small}
 use Rattle.qm_runs.proofs.Stuck.Shapes.{rows_shapes}
 

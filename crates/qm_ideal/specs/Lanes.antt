@@ -4,7 +4,7 @@ use Rattle.std.specs.BTreeMap.{get}
 use Rattle.std.specs.declared.alloc.Global.{Global}
 use Rattle.std.specs.declared.collections.VecDeque.{VecDeque}
 use Rattle.qm_instr.specs.declared.Lane.{Lane}
-use Rattle.qm_check.specs.Tallies.{code_order}
+use Rattle.qm_instr.specs.Lanes.{code_order}
 use Rattle.qm_ideal.specs.declared.lanes.Lanes as code
 
 -- the elements of a queue, where there is one
@@ -15,9 +15,3 @@ items_in (Some q) = q.items
 -- what a lane holds, the front first
 abbrev pub lanes_of : {T : Type 0} → code.Lanes T → Lane → List T
 lanes_of m a = items_in (get code_order m.queues a)
-
--- a list with another last element
-abbrev pub last_set : {T : Type 0} → List T → T → List T
-last_set [] v = []
-last_set (x ∷ []) v = v ∷ []
-last_set (x ∷ y ∷ xs) v = x ∷ last_set (y ∷ xs) v

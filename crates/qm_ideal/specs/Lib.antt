@@ -5,7 +5,6 @@ pub mod OneRuns
 pub mod Widths
 pub mod OneCircuits
 pub mod Room
-pub mod Existence
 pub mod Meetings
 pub mod MeetingViews
 pub mod MeetingRuns

@@ -1,5 +1,6 @@
 -- What the code's steps mean in the model of the ideal run
 use Rattle.std.specs.Prelude.{◌<◌, Bool, true, false, List, [], ◌∷◌, Option, Some, None}
+use Rattle.qm_limits.specs.declared.TheConstants.{SLOTS, BITS}
 use Rattle.qm_instr.specs.declared.Instr.{Instr}
 use Rattle.qm_instr.specs.declared.Instr.TheVariants as instr
 use Rattle.qm_proto.specs.Model.Ideal as model
@@ -11,6 +12,7 @@ use Rattle.qm_ideal.specs.declared.steps.Rule.TheVariants as rule
 use Rattle.qm_ideal.specs.declared.steps.Act.{Act}
 use Rattle.qm_ideal.specs.declared.steps.Act.TheVariants as act
 
+-- a wire, a bit, or a sign on a lane
 abbrev pub load_meant : code.Load → model.Load
 load_meant (load.Carried w) = model.Carried w
 load_meant (load.Told b) = model.Told b
@@ -21,12 +23,14 @@ abbrev pub load_in : Option code.Load → model.Load
 load_in None = model.Token
 load_in (Some x) = load_meant x
 
+-- what a step waits for
 abbrev pub rule_meant : Rule → IdealRule
 rule_meant rule.Always = model.Always
 rule_meant (rule.Filled a) = model.Filled a
 rule_meant (rule.Engaged a) = model.Engaged a
 rule_meant (rule.Lent a back) = model.Lent a back
 
+-- what a step does to the tables
 abbrev pub act_meant : Act → IdealAct
 act_meant act.Counts = model.Counts
 act_meant (act.SlotSet q w) = model.SlotSet q w
@@ -57,10 +61,11 @@ is_message (instr.When b g) = false
 
 -- the act's slot or bit is one that there may be
 abbrev pub IsSmall : IdealAct → Type 0
-IsSmall (model.SlotSet q w) = q < 16
-IsSmall (model.BitSet b v) = b < 32
+IsSmall (model.SlotSet q w) = q < SLOTS
+IsSmall (model.BitSet b v) = b < BITS
 IsSmall _ = Unit {0}
 
+-- so is that of each of these acts
 abbrev pub AllSmall : List IdealAct → Type 0
 AllSmall [] = Unit {0}
 AllSmall (a ∷ acts) = IsSmall a × AllSmall acts

@@ -9,18 +9,22 @@ use Rattle.qm_ideal.specs.Lanes.{lanes_of}
 use Rattle.qm_runs.specs.Stuck.Shapes.{Move, Puts, Tells, Gets, Shape, shape}
 use Rattle.qm_ideal.specs.Meetings.{Stand}
 
+-- what an event does to a lane
 abbrev pub move_meant : code_move.Move → Move
 move_meant (variant.Puts a b) = Puts a b
 move_meant (variant.Tells a) = Tells a
 move_meant (variant.Gets a) = Gets a
 
+-- a line of the code, as the shape of an event
 abbrev pub line_meant : code_line.Line → Shape
 line_meant x = shape x.rule (map move_meant (option_to_list x.act))
 
+-- the shape of a line, where there is one
 abbrev pub line_in : Option code_line.Line → Option Shape
 line_in None = None
 line_in (Some x) = Some (line_meant x)
 
+-- a rank before its first event
 abbrev pub unmoved : Place
 unmoved = record { at = 0; stage = 0 }
 
@@ -33,6 +37,7 @@ abbrev pub stage_in : Option Place → ℕ
 stage_in None = 0
 stage_in (Some x) = x.stage
 
+-- where all ranks stand, and what is on the lanes
 abbrev pub stand_in : Meeting → Stand
 stand_in m =
     record {

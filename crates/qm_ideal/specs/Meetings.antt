@@ -7,7 +7,6 @@ use Rattle.qm_proto.specs.declared.Rule.{Rule}
 use Rattle.qm_proto.specs.declared.Rule.TheVariants.{Always, PairRoom, Engaged, Filled}
 use Rattle.qm_proto.specs.Model.Runs.{receives_on, events_at}
 use Rattle.qm_proto.specs.Model.State.{Tables, with_at, with_lane}
-use Rattle.qm_ideal.specs.Lanes.{last_set}
 use Rattle.qm_runs.specs.Stuck.Shapes.{Move, Puts, Tells, Gets, Shape, shapes}
 
 -- where the ranks stand, and the lanes
@@ -21,6 +20,12 @@ has_bits x = is_some x.bits
 
 abbrev pub stand_of : Tables → Stand
 stand_of t = record { at = λ r. (t.parts r).at; stage = λ r. (t.parts r).stage; lanes = λ a. map has_bits (t.lanes a) }
+
+-- a list with another last element
+abbrev pub last_set : {T : Type 0} → List T → T → List T
+last_set [] v = []
+last_set (x ∷ []) v = v ∷ []
+last_set (x ∷ y ∷ xs) v = x ∷ last_set (y ∷ xs) v
 
 -- what a move leaves: a parcel more, bits in the last one, or all but the front one
 abbrev pub lanes_after : (Lane → List Bool) → Move → Lane → List Bool

@@ -2,25 +2,26 @@
 use Rattle.std.specs.Prelude.{◌≡◌, ℕ, ◌+◌, ◌*◌, ◌<◌, zero, suc, Bool, slice_index_or, None, List, [], ◌++◌, Option, option_to_list, length, if◌then◌else◌}
 use Rattle.qm_denot.specs.declared.Wire.{Wire}
 use Rattle.qm_denot.specs.Circuits.{Circuit}
+use Rattle.qm_limits.specs.declared.TheConstants.{SLOTS, MOST_INSTRUCTIONS}
 use Rattle.qm_instr.specs.Programs.{Programs}
 use Rattle.qm_proto.specs.Model.Ideal as model
 use Rattle.qm_proto.specs.Model.Ideal.{IdealTables, ideal_replay, IsOneRun, AllDone, has_instr}
 use Rattle.qm_ideal.specs.declared.MonoError.{MonoError}
 use Rattle.qm_ideal.specs.declared.MonoError.TheVariants as error
 
--- the most letters that the one circuit of programs in their ranges has
+-- more letters than the one circuit of programs in their ranges can have: two for each instruction, if each of 16 ranks had all of them
 abbrev pub most_letters : ℕ
-most_letters = 3200000
+most_letters = 32 * MOST_INSTRUCTIONS
 
 -- the wires in the first n slots of a rank
 abbrev pub wires_below : (ℕ → Option Wire) → ℕ → List Wire
 wires_below f zero = []
 wires_below f (suc n) = wires_below f n ++ option_to_list (f n)
 
--- the wires in the slots of the first n ranks, by rank, then by slot; no rank has more than 16 slots
+-- the wires in the slots of the first n ranks, by rank, then by slot; no rank has more slots than it may have
 abbrev pub wires_in : (ℕ → ℕ → Option Wire) → ℕ → List Wire
 wires_in f zero = []
-wires_in f (suc n) = wires_in f n ++ wires_below (f n) 16
+wires_in f (suc n) = wires_in f n ++ wires_below (f n) SLOTS
 
 -- a rank at the end: its bits and its slots
 pub record RankEnd : Type 0 where
@@ -37,6 +38,7 @@ pub record OneView : Type 0 where
 abbrev pub no_rank : RankEnd
 no_rank = record { bits = []; slots = [] }
 
+-- the bits of rank r at the end, and the wire in its slot q
 abbrev pub bits_of : OneView → ℕ → List Bool
 bits_of m r = (slice_index_or m.ranks r no_rank).bits
 

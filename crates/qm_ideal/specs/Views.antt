@@ -1,6 +1,7 @@
 -- The ideal tables that the code keeps
 use Rattle.std.specs.Prelude.{ℕ, Bool, false, List, map, drop, replicate, Option, Some, None, slice_get, slice_index_or}
 use Rattle.qm_denot.specs.declared.Wire.{Wire}
+use Rattle.qm_limits.specs.declared.TheConstants.{SLOTS, BITS}
 use Rattle.qm_instr.specs.Programs.{Programs, RankProgram, rank_of}
 use Rattle.qm_proto.specs.Model.Ideal.{IdealPart, IdealTables, IdealState, ideal_part_at_start, width}
 use Rattle.qm_ideal.specs.declared.run.Run.{Run}
@@ -14,33 +15,38 @@ use Rattle.qm_ideal.specs.OneCircuits.{RankEnd, OneView, wires_in}
 abbrev pub part_of : RankProgram → Rank → IdealPart
 part_of x k = record { at = k.at; made = k.made; bits = k.bits; own = drop k.used x.own }
 
+-- a rank that there isn't stands at the start of its program
 abbrev pub part_in : RankProgram → Option Rank → IdealPart
 part_in x None = ideal_part_at_start x
 part_in x (Some k) = part_of x k
 
+-- the ranks of a list, by their programs
 abbrev pub parts_at : Programs → List Rank → ℕ → IdealPart
 parts_at p ranks r = part_in (rank_of p r) (slice_get ranks r)
 
 -- a rank before its first instruction
 abbrev pub unmoved : Rank
-unmoved = record { at = 0; made = 0; used = 0; bits = replicate 32 false; slots = replicate 16 None }
+unmoved = record { at = 0; made = 0; used = 0; bits = replicate BITS false; slots = replicate SLOTS None }
 
 -- the wires in a rank's slots
 abbrev pub slot_in : Option Rank → ℕ → Option Wire
 slot_in None q = None
 slot_in (Some k) q = slice_index_or k.slots q None
 
+-- the wires in the slots of a list's ranks
 abbrev pub slots_at : List Rank → ℕ → ℕ → Option Wire
 slots_at ranks r q = slot_in (slice_get ranks r) q
 
 -- a rank's bits
 abbrev pub bits_in : Option Rank → List Bool
-bits_in None = replicate 32 false
+bits_in None = replicate BITS false
 bits_in (Some k) = k.bits
 
+-- the bits of a list's rank
 abbrev pub bits_at : List Rank → ℕ → List Bool
 bits_at ranks r = bits_in (slice_get ranks r)
 
+-- the ideal tables, as a run of these programs keeps them
 abbrev pub tables_of : Programs → Tables → IdealTables
 tables_of p t =
     record {
@@ -57,6 +63,7 @@ state_of p x = record { tables = tables_of p x.tables; circuit = x.letters.items
 abbrev pub end_of : Rank → RankEnd
 end_of k = record { bits = k.bits; slots = k.slots }
 
+-- all ranks at the end of a run
 abbrev pub ends_of : Tables → List RankEnd
 ends_of t = map end_of t.ranks.items
 

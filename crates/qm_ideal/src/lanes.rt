@@ -2,7 +2,8 @@
 ghost use Rattle.std.specs.Prelude.{◌≡◌, ◌++◌, ◌∷◌, [], length, drop, slice_get, nat_eq, OnOk};
 ghost use Rattle.qm_instr.specs.declared.Lane.{Lane};
 ghost use Rattle.qm_proto.specs.Model.State.{with_lane};
-ghost use Rattle.qm_ideal.specs.Lanes.{lanes_of, last_set};
+ghost use Rattle.qm_ideal.specs.Lanes.{lanes_of};
+ghost use Rattle.qm_ideal.specs.Meetings.{last_set};
 
 use qm_instr::Lane;
 use std::alloc::{AllocError, Global};

@@ -1,6 +1,5 @@
 //! The laws of the one circuit: the order in which ranks step in an ideal run, and the width.
 
-ghost use Rattle.qm_ideal.specs.Existence.{OneRunLaw, RendezvousRunLaw};
 ghost use Rattle.qm_ideal.specs.Room.{WidthLaw};
 ghost use Rattle.qm_runs.specs.Confluence.{ConfluenceLaw};
 
@@ -15,14 +14,4 @@ pub fn confluence_law()
 /// capacity is at least the width.
 pub fn width_law()
     ensures { WidthLaw }
-{}
-
-/// The ideal run that steps the lowest enabled rank until none is enabled is one: there is such a run, and no other.
-pub fn one_run_law()
-    ensures { OneRunLaw }
-{}
-
-/// The rendezvous run, in which every buffer holds one half and letters are left aside, is one: there is such a run, and no other.
-pub fn rendezvous_run_law()
-    ensures { RendezvousRunLaw }
 {}

@@ -11,6 +11,7 @@ use crate::width::width;
 use qm_check::Ready;
 use qm_denot::{Letter, Wire};
 use qm_instr::Input;
+use qm_limits::{MOST_RANKS, SLOTS};
 use std::alloc::{AllocError, Global};
 use std::marker::Model;
 
@@ -73,7 +74,7 @@ impl OneCircuit {
 fn ranks_left(input: &Input, ranks: u16, tables: &Tables) -> u16
     requires all { ranks ≡ length input.now.ranks }
     requires same { length tables.now.ranks.items ≡ length input.now.ranks }
-    requires few { ranks ≤ 16 }
+    requires few { ranks ≤ MOST_RANKS }
     ensures { result ≡ left_from input.now (tables_of input.now tables.now) 0
         (length input.now.ranks) }
 {
@@ -98,9 +99,9 @@ fn wires_in(alloc: Global, ranks: u16, tables: &Tables) -> Result<Vec<Wire>, All
 /// Appends the wires in the slots of a rank.
 fn push_wires(wires: &mut Vec<Wire>, tables: &Tables, rank: u16) -> Result<(), AllocError>
     ensures { OnOk result (wires.new.items
-        ≡ wires.old.items ++ wires_below (slots_at tables.now.ranks.items rank) 16) }
+        ≡ wires.old.items ++ wires_below (slots_at tables.now.ranks.items rank) SLOTS) }
 {
-    for q in 0..16 {
+    for q in 0..SLOTS {
         if let Some(wire) = tables.slot(rank, q) {
             wires.push(wire)?;
         }
@@ -110,7 +111,7 @@ fn push_wires(wires: &mut Vec<Wire>, tables: &Tables, rank: u16) -> Result<(), A
 
 /// The circuit, with its width, of a run that leaves no instruction.
 fn measured(alloc: Global, ranks: u16, run: Run) -> Result<OneCircuit, MonoError>
-    requires few { ranks ≤ 16 }
+    requires few { ranks ≤ MOST_RANKS }
     requires short { length run.letters.items ≤ most_letters }
     ensures ok { IfOk result (λ m. m ≡ view_of_run ranks run) }
     ensures err { IfErr result (λ e. e ≡ MonoError.Memory) }

@@ -18,7 +18,7 @@ use qm_proto::Few;
 use std::alloc::{AllocError, Global};
 
 /// How many slots a rank may have.
-const SLOTS: usize = 16;
+const SLOTS: usize = qm_limits::SLOTS as usize;
 
 /// What stands for the wire of an empty slot, and of a lane without one.
 const NO_WIRE: Wire = Wire {
@@ -235,7 +235,7 @@ impl Tables {
     /// Fills a slot with a wire, or empties it.
     fn set_slot(&mut self, input: &Input, rank: u16, q: u8, wire: Option<Wire>)
         requires known { rank < length self.old.ranks.items }
-        requires slot { q < 16 }
+        requires slot { q < SLOTS }
         ensures did { tables_of input.now self.new
             ≡ ideal_done rank (tables_of input.now self.old) (SlotSet q wire) }
         ensures ranks { length self.new.ranks.items ≡ length self.old.ranks.items }
@@ -260,7 +260,7 @@ impl Tables {
     /// Sets a bit.
     fn set_bit(&mut self, input: &Input, rank: u16, b: u8, v: bool)
         requires known { rank < length self.old.ranks.items }
-        requires bit { b < 32 }
+        requires bit { b < BITS }
         ensures did { tables_of input.now self.new
             ≡ ideal_done rank (tables_of input.now self.old) (BitSet b v) }
         ensures ranks { length self.new.ranks.items ≡ length self.old.ranks.items }

@@ -1,5 +1,5 @@
 //! The width of a circuit: the least capacity of a store in which every letter finds room.
-ghost use Rattle.std.specs.Prelude.{◌≡◌, ◌≤◌, ◌++◌, ◌&&◌, [], ◌∷◌, not, if◌then◌else◌, length, filter, IfOk, OnOk};
+ghost use Rattle.std.specs.Prelude.{◌≡◌, ◌*◌, ◌≤◌, ◌++◌, ◌&&◌, [], ◌∷◌, not, if◌then◌else◌, length, filter, IfOk, OnOk};
 ghost use Rattle.qm_denot.specs.declared.Wire.{Wire};
 ghost use Rattle.qm_denot.specs.Stores.{live_after};
 ghost use Rattle.qm_denot.specs.Weights.{operands};
@@ -9,6 +9,7 @@ ghost use Rattle.qm_proto.specs.Model.Ideal.{made_fresh, width};
 ghost use Rattle.qm_ideal.specs.Widths.{lacked, also_lacked};
 
 use qm_denot::{Letter, Wire};
+use qm_limits::{MOST_RANKS, SLOTS};
 use std::alloc::{AllocError, Global};
 use std::collections::BTreeSet;
 
@@ -115,7 +116,7 @@ fn unnamed(named: &BTreeSet<Wire>, ends: &[Wire]) -> usize
 
 /// The width of a circuit at whose end these wires stand in slots. `AllocError` comes from the allocator alone.
 pub(crate) fn width(alloc: Global, letters: &[Letter], ends: &[Wire]) -> Result<usize, AllocError>
-    requires { length ends.now ≤ 256 }
+    requires { length ends.now ≤ MOST_RANKS * SLOTS }
     ensures { IfOk result (λ n. n ≡ width letters.now ends.now) }
 {
     let mut named = BTreeSet::new(alloc);

@@ -3,7 +3,7 @@ use Rattle.std.proofs.Common.{◌≡◌, ℕ, ◌+◌, ◌<◌, ◌≤◌, Bool,
 use Rattle.std.proofs.lemmas.List.{length-set, length-replicate, get_or_read}
 use Rattle.std.proofs.lemmas.List.Elements.{All-nil, All-push, All-set, All-get_or, All-replicate}
 use Rattle.std.proofs.lemmas.List.Sums.{sum_by-set, sum_by-le}
-use Rattle.qm_instr.specs.declared.programs.TheConstants.{MOST_INSTRUCTIONS, MOST_OUTCOMES}
+use Rattle.qm_limits.specs.declared.TheConstants.{MOST_RANKS, SLOTS, MOST_HALVES, MOST_INSTRUCTIONS, MOST_OUTCOMES}
 use Rattle.qm_instr.specs.declared.Instr.{Instr}
 use Rattle.qm_instr.specs.Operands.{HasOperands}
 use Rattle.qm_instr.specs.Programs.{RankProgram, Programs, idle_rank, rank_of, with_rank, with_sizes, idle, with_instruction, with_own, with_protocol, instruction_total, IsRankInRange, IsInRange}
@@ -43,7 +43,7 @@ pub same_rank-in_range : (p : Programs) (r : ℕ) → r < length p.ranks → IsI
 same_rank-in_range p r known h =
     with_rank-in_range p r (rank_of p r) known h (rank_of-in_range p r known h) (same_few p r (rank_of p r) known h refl)
 
-pub with_sizes-in_range : (p : Programs) (r q b : ℕ) → r < length p.ranks → (rank_of p r).instructions ≡ [] → 1 ≤ q → q ≤ 16 → 1 ≤ b → b ≤ 8 → IsInRange p → IsInRange (with_sizes p r q b)
+pub with_sizes-in_range : (p : Programs) (r q b : ℕ) → r < length p.ranks → (rank_of p r).instructions ≡ [] → 1 ≤ q → q ≤ SLOTS → 1 ≤ b → b ≤ MOST_HALVES → IsInRange p → IsInRange (with_sizes p r q b)
 with_sizes-in_range p r q b known unwritten some_q most_q some_b most_b h =
     let x = rank_of p r in
     let was = rank_of-in_range p r known h in
@@ -130,7 +130,7 @@ edited edit p v s r x y same_p same_r known read made =
     ap (λ (z : Programs). with_rank z r (edit (rank_of z r))) (sym same_p) ∙ here
 
 -- ranks that do nothing are in their ranges
-pub idle-in_range : (version ranks : ℕ) → 1 ≤ version → version ≤ 2 → 1 ≤ ranks → ranks ≤ 16 → IsInRange (idle version ranks)
+pub idle-in_range : (version ranks : ℕ) → 1 ≤ version → version ≤ 2 → 1 ≤ ranks → ranks ≤ MOST_RANKS → IsInRange (idle version ranks)
 idle-in_range version ranks least last some most =
     let none : (r : RankProgram) → ℕ = λ r. length r.instructions in
     record {

@@ -9,6 +9,7 @@ pub record Counts : Type 0 where
   pub protocol : ℕ
   pub own : ℕ
 
+-- a line with so many events, outcomes of the protocol tape, and outcomes of the own tape
 abbrev pub counts : ℕ → ℕ → ℕ → Counts
 counts events protocol own = record { events = events; protocol = protocol; own = own }
 

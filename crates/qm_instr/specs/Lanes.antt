@@ -7,6 +7,7 @@ use Rattle.qm_instr.specs.declared.Instr.TheVariants as instr
 use Rattle.qm_instr.specs.declared.Kind.{Kind}
 use Rattle.qm_instr.specs.declared.Kind.TheVariants as kind
 use Rattle.qm_instr.specs.declared.Lane.{Lane}
+use Rattle.qm_instr.specs.contracts.LaneOrd.TheImpl as lane_ord
 
 abbrev pub lane : ℕ → ℕ → Kind → ℕ → Lane
 lane from to k tag = record { from = from; to = to; kind = k; tag = tag }
@@ -28,6 +29,10 @@ abbrev pub lane_order : Lane → Lane → Ordering
 lane_order a b =
     let last = ordering_then (kind_order a.kind b.kind) (nat_cmp a.tag b.tag) in
     ordering_then (nat_cmp a.from b.from) (ordering_then (nat_cmp a.to b.to) last)
+
+-- the order of the lanes in the code
+abbrev pub code_order : Lane → Lane → Ordering
+code_order = (lane_ord.ghosts).cmp
 
 -- whether two kinds are the same
 abbrev pub is_kind : Kind → Kind → Bool

@@ -1,5 +1,6 @@
 -- The slots and the classical bits that an instruction names
 use Rattle.std.specs.Prelude.{ℕ, ◌<◌, List, [], ◌∷◌, All}
+use Rattle.qm_limits.specs.declared.TheConstants.{BITS}
 use Rattle.qm_instr.specs.declared.Gate.{Gate}
 use Rattle.qm_instr.specs.declared.Gate.TheVariants as gate
 use Rattle.qm_instr.specs.declared.Instr.{Instr}
@@ -51,7 +52,7 @@ bits_of (instr.MoveFrom q from tag) = []
 bits_of (instr.ReachTo q to tag) = []
 bits_of (instr.ReachFrom t from tag) = []
 
--- each slot is below the rank's qubits, and each bit below 32
+-- each slot is below the rank's qubits, and each bit is one of a rank's
 pub record HasOperands (qubits : ℕ) (i : Instr) : Type 0 where
   pub slots : All (λ q. q < qubits) (slots_of i)
-  pub bits : All (λ b. b < 32) (bits_of i)
+  pub bits : All (λ b. b < BITS) (bits_of i)

@@ -1,7 +1,7 @@
 -- The programs of all ranks, as a value of plain lists
 use Rattle.std.specs.Prelude.{ℕ, ◌≤◌, Bool, List, [], ◌∷◌, ◌++◌, length, replicate, sum_by, All, slice_index_or, slice_set}
 use Rattle.qm_instr.specs.declared.Instr.{Instr}
-use Rattle.qm_instr.specs.declared.programs.TheConstants.{MOST_INSTRUCTIONS, MOST_OUTCOMES}
+use Rattle.qm_limits.specs.declared.TheConstants.{MOST_RANKS, SLOTS, MOST_HALVES, MOST_INSTRUCTIONS, MOST_OUTCOMES}
 use Rattle.qm_instr.specs.Operands.{HasOperands}
 
 -- one rank: how many slots it has, how many halves its buffer holds, its instructions, and its two tapes of outcomes
@@ -29,6 +29,7 @@ idle version ranks = record { version = version; ranks = replicate ranks idle_ra
 abbrev pub rank_of : Programs → ℕ → RankProgram
 rank_of p r = slice_index_or p.ranks r idle_rank
 
+-- the programs with another one for rank r
 abbrev pub with_rank : Programs → ℕ → RankProgram → Programs
 with_rank p r x = record p { ranks = slice_set p.ranks r x }
 
@@ -56,18 +57,18 @@ instruction_total p = sum_by (λ r. length r.instructions) p.ranks
 -- a rank's sizes, operands and tapes are in their ranges
 pub record IsRankInRange (r : RankProgram) : Type 0 where
   pub some_qubits : 1 ≤ r.qubits
-  pub most_qubits : r.qubits ≤ 16
+  pub most_qubits : r.qubits ≤ SLOTS
   pub some_buffer : 1 ≤ r.buffer
-  pub most_buffer : r.buffer ≤ 8
+  pub most_buffer : r.buffer ≤ MOST_HALVES
   pub operands : All (HasOperands r.qubits) r.instructions
   pub own : length r.own ≤ MOST_OUTCOMES
   pub protocol : length r.protocol ≤ MOST_OUTCOMES
 
--- version 1 or 2, 1 to 16 ranks, each in its ranges, and at most 100,000 instructions over all ranks
+-- version 1 or 2, some ranks but not too many, each in its ranges, and not too many instructions over all ranks
 pub record IsInRange (p : Programs) : Type 0 where
   pub least_version : 1 ≤ p.version
   pub last_version : p.version ≤ 2
   pub some_ranks : 1 ≤ length p.ranks
-  pub most_ranks : length p.ranks ≤ 16
+  pub most_ranks : length p.ranks ≤ MOST_RANKS
   pub each : All IsRankInRange p.ranks
   pub few : instruction_total p ≤ MOST_INSTRUCTIONS

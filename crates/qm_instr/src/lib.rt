@@ -8,7 +8,7 @@ mod ranks;
 
 pub use counts::{event_count, own_count, protocol_count};
 pub use messages::{receive_lane, send_lane};
-pub use programs::{Input, MOST_INSTRUCTIONS, MOST_OUTCOMES};
+pub use programs::Input;
 
 #[cfg(test)]
 mod tests;
@@ -27,9 +27,10 @@ pub enum OneGate {
     Tdg,
 }
 
-/// A gate and the slots of its qubits, each below 16.
+/// A gate and the slots of its qubits, each below [`qm_limits::SLOTS`].
 #[derive(Clone, Copy, PartialEq, Eq, Debug)]
 pub enum Gate {
+    /// The gate on the qubit in slot `q`.
     One { g: OneGate, q: u8 },
     /// Exchanges the branches of slot `t` where slot `c` is one.
     Cx { c: u8, t: u8 },
@@ -39,32 +40,39 @@ pub enum Gate {
 
 /// An instruction of a rank.
 ///
-/// `q` and `t` are slots of the rank, below 16; `b` and `c` are its classical bits, below 32; `to` and `from` are the rank at the
-/// other end of a message, and `tag` tells messages between the same ranks apart.
+/// `q` and `t` are slots of the rank, below [`qm_limits::SLOTS`]; `b` and `c` are its classical bits, below [`qm_limits::BITS`]; `to`
+/// and `from` are the rank at the other end of a message, and `tag` tells messages between the same ranks apart.
 #[derive(Clone, Copy, PartialEq, Eq, Debug)]
 pub enum Instr {
     /// A fresh qubit, which is zero, into an empty slot.
     Alloc { q: u8 },
     /// Gives up a qubit that is zero.
     Free { q: u8 },
+    /// Does the gate.
     Do { g: Gate },
     /// Projects a qubit on the next outcome of the own tape, which goes into bit `b`.
     Measure { q: u8, b: u8 },
+    /// Bit `b` becomes `v`.
     Set { b: u8, v: bool },
     /// Adds bit `c` to bit `b`, without carry.
     Xor { b: u8, c: u8 },
     /// Does the gate where bit `b` is one.
     When { b: u8, g: Gate },
+    /// Sends bit `b`.
     SendBit { b: u8, to: u16, tag: u16 },
+    /// Receives a bit, which goes into bit `b`.
     RecvBit { b: u8, from: u16, tag: u16 },
     /// Sends an entangled copy of a qubit, which stays.
     CopyTo { q: u8, to: u16, tag: u16 },
+    /// Receives a copy, which goes into an empty slot.
     CopyFrom { q: u8, from: u16, tag: u16 },
     /// Gives up a copy, at the rank that holds it; `to` is the rank of the source.
     UndoTo { q: u8, to: u16, tag: u16 },
+    /// Takes a copy back, at the rank of its source; `from` is the rank that gives it up.
     UndoFrom { q: u8, from: u16, tag: u16 },
     /// Teleports a qubit.
     MoveTo { q: u8, to: u16, tag: u16 },
+    /// Receives a qubit, which goes into an empty slot.
     MoveFrom { q: u8, from: u16, tag: u16 },
     /// Lends a qubit as the control of a controlled-not at another rank.
     ReachTo { q: u8, to: u16, tag: u16 },

@@ -5,19 +5,15 @@ ghost use Rattle.qm_instr.specs.Programs.{IsInRange, idle, rank_of, with_sizes, 
 
 use crate::Instr;
 use crate::ranks::Rank;
+use qm_limits::{MOST_HALVES, MOST_INSTRUCTIONS, MOST_OUTCOMES, MOST_RANKS, SLOTS};
 use std::alloc::{AllocError, Global};
 use std::marker::Model;
 
-/// How many instructions the ranks may have together.
-pub const MOST_INSTRUCTIONS: u32 = 100_000;
-
-/// How many outcomes a tape may have.
-pub const MOST_OUTCOMES: usize = 1_048_576;
-
 /// The programs of all ranks: a version, and for each rank its slots, its buffer, its instructions and its two tapes of outcomes.
 ///
-/// The version is 1 or 2, and there are 1 to 16 ranks. Each rank has 1 to 16 slots and a buffer of 1 to 8, its instructions name slots
-/// that it has and bits below 32, and each tape has at most 1,048,576 outcomes. All ranks together have at most 100,000 instructions.
+/// The version is 1 or 2, and there are 1 to [`MOST_RANKS`] ranks. Each rank has 1 to [`SLOTS`] slots and a buffer of 1 to
+/// [`MOST_HALVES`], its instructions name slots that it has and bits below [`qm_limits::BITS`], and each tape has at most
+/// [`MOST_OUTCOMES`] outcomes. All ranks together have at most [`MOST_INSTRUCTIONS`] instructions.
 #[derive(Drop)]
 pub struct Input {
     version: u8,
@@ -37,12 +33,12 @@ impl Model for Input {
 impl Input {
     /// Ranks that do nothing, each with one slot, a buffer of one and empty tapes.
     ///
-    /// The version is 1 or 2, and there are 1 to 16 ranks. `AllocError` comes from the allocator alone.
+    /// The version is 1 or 2, and there are 1 to [`MOST_RANKS`] ranks. `AllocError` comes from the allocator alone.
     pub fn start(alloc: Global, version: u8, ranks: u16) -> Result<Input, AllocError>
         requires least_version { 1 ≤ version }
         requires last_version { version ≤ 2 }
         requires some_ranks { 1 ≤ ranks }
-        requires most_ranks { ranks ≤ 16 }
+        requires most_ranks { ranks ≤ MOST_RANKS }
         ensures { IfOk result (λ p. p ≡ idle version ranks) }
     {
         let mut all = Vec::new(alloc);
@@ -55,14 +51,15 @@ impl Input {
         })
     }
 
-    /// Sets how many slots a rank has, 1 to 16, and how many halves its buffer holds, 1 to 8, before its first instruction.
+    /// Sets how many slots a rank has, 1 to [`SLOTS`], and how many halves its buffer holds, 1 to [`MOST_HALVES`], before its first
+    /// instruction.
     pub fn size(&mut self, rank: u16, qubits: u8, buffer: u8)
         requires known { rank < length self.old.ranks }
         requires unwritten { (rank_of self.old rank).instructions ≡ [] }
         requires some_qubits { 1 ≤ qubits }
-        requires most_qubits { qubits ≤ 16 }
+        requires most_qubits { qubits ≤ SLOTS }
         requires some_buffer { 1 ≤ buffer }
-        requires most_buffer { buffer ≤ 8 }
+        requires most_buffer { buffer ≤ MOST_HALVES }
         ensures { self.new ≡ with_sizes self.old rank qubits buffer }
     {
         self.ranks[usize::from(rank)].size(qubits, buffer);
@@ -70,7 +67,8 @@ impl Input {
 
     /// Appends an instruction to a rank's program. `AllocError` comes from the allocator alone, and leaves the programs as they were.
     ///
-    /// The instruction's slots are below the rank's, its bits are below 32, and the ranks have fewer than 100,000 instructions together.
+    /// The instruction's slots are below the rank's, its bits are below [`BITS`], and the ranks have fewer than
+    /// [`MOST_INSTRUCTIONS`] instructions together.
     pub fn push(&mut self, rank: u16, i: Instr) -> Result<(), AllocError>
         requires known { rank < length self.old.ranks }
         requires operands { HasOperands (rank_of self.old rank).qubits i }
@@ -83,8 +81,8 @@ impl Input {
         Ok(())
     }
 
-    /// Appends an outcome to a rank's own tape, which has fewer than 1,048,576. `AllocError` comes from the allocator alone, and leaves
-    /// the programs as they were.
+    /// Appends an outcome to a rank's own tape, which has fewer than [`MOST_OUTCOMES`]. `AllocError` comes from the allocator alone, and
+    /// leaves the programs as they were.
     pub fn push_own(&mut self, rank: u16, m: bool) -> Result<(), AllocError>
         requires known { rank < length self.old.ranks }
         requires room { length (rank_of self.old rank).own < MOST_OUTCOMES }
@@ -95,8 +93,8 @@ impl Input {
         Ok(())
     }
 
-    /// Appends an outcome to a rank's protocol tape, which has fewer than 1,048,576. `AllocError` comes from the allocator alone, and
-    /// leaves the programs as they were.
+    /// Appends an outcome to a rank's protocol tape, which has fewer than [`MOST_OUTCOMES`]. `AllocError` comes from the allocator alone,
+    /// and leaves the programs as they were.
     pub fn push_protocol(&mut self, rank: u16, m: bool) -> Result<(), AllocError>
         requires known { rank < length self.old.ranks }
         requires room { length (rank_of self.old rank).protocol < MOST_OUTCOMES }
@@ -115,7 +113,7 @@ impl Input {
         self.version
     }
 
-    /// How many ranks there are, from 1 to 16.
+    /// How many ranks there are, from 1 to [`MOST_RANKS`].
     pub fn ranks(&self) -> u16
         ensures value { result ≡ length self.now.ranks }
         ensures in_range { IsInRange self.now }
@@ -123,7 +121,7 @@ impl Input {
         self.ranks.len() as u16
     }
 
-    /// How many slots a rank has, from 1 to 16.
+    /// How many slots a rank has, from 1 to [`SLOTS`].
     pub fn qubits(&self, rank: u16) -> u8
         requires { rank < length self.now.ranks }
         ensures { result ≡ (rank_of self.now rank).qubits }
@@ -132,7 +130,7 @@ impl Input {
         part.qubits
     }
 
-    /// How many halves a rank's buffer holds, from 1 to 8.
+    /// How many halves a rank's buffer holds, from 1 to [`MOST_HALVES`].
     pub fn buffer(&self, rank: u16) -> u8
         requires { rank < length self.now.ranks }
         ensures { result ≡ (rank_of self.now rank).buffer }
@@ -141,7 +139,7 @@ impl Input {
         part.buffer
     }
 
-    /// How many instructions a rank has, at most 100,000.
+    /// How many instructions a rank has, at most [`MOST_INSTRUCTIONS`].
     pub fn count(&self, rank: u16) -> u32
         requires { rank < length self.now.ranks }
         ensures value { result ≡ length (rank_of self.now rank).instructions }
@@ -151,7 +149,7 @@ impl Input {
         part.instructions.len() as u32
     }
 
-    /// The outcomes of a rank's own tape, at most 1,048,576.
+    /// The outcomes of a rank's own tape, at most [`MOST_OUTCOMES`].
     pub fn own(&self, rank: u16) -> &[bool]
         requires { rank < length self.now.ranks }
         ensures value { result.now ≡ (rank_of self.now rank).own }
@@ -161,7 +159,7 @@ impl Input {
         part.own.as_slice()
     }
 
-    /// The outcomes of a rank's protocol tape, at most 1,048,576.
+    /// The outcomes of a rank's protocol tape, at most [`MOST_OUTCOMES`].
     pub fn protocol(&self, rank: u16) -> &[bool]
         requires { rank < length self.now.ranks }
         ensures value { result.now ≡ (rank_of self.now rank).protocol }

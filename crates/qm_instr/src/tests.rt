@@ -3,6 +3,9 @@ use crate::{
     Gate, Input, Instr, Kind, Lane, OneGate, event_count, own_count, protocol_count, receive_lane,
     send_lane,
 };
+use qm_limits::{BITS, MOST_HALVES, MOST_OUTCOMES, MOST_RANKS, SLOTS};
+use std::alloc::AllocError;
+use std::process::Abort;
 use std::test::Fail;
 
 #[test]
@@ -208,5 +211,50 @@ fn an_input_is_read_as_it_was_built(rt: HostRuntime) -> Result<(), Fail> {
     assert_eq!(rt; input.own(1), [true].as_slice());
     assert_eq!(rt; input.protocol(1), [].as_slice());
     assert_eq!(rt; input.protocol(0), [false].as_slice());
+    Ok(())
+}
+
+#[test]
+fn the_last_rank_has_the_largest_sizes(rt: HostRuntime) -> Result<(), Fail> {
+    let last = MOST_RANKS - 1;
+    let slot = Instr::Alloc { q: SLOTS - 1 };
+    let bit = Instr::Set {
+        b: BITS - 1,
+        v: true,
+    };
+    let mut input = Input::start(rt.alloc(), 2, MOST_RANKS)?;
+    input.size(last, SLOTS, MOST_HALVES);
+    input.push(last, slot)?;
+    input.push(last, bit)?;
+    assert_eq!(rt; (input.version(), input.ranks()), (2, 16));
+    assert_eq!(rt;
+        (input.qubits(last), input.buffer(last), input.count(last)),
+        (16, 8, 2)
+    );
+    assert_eq!(rt; input.instr(last, 0), Some(slot));
+    assert_eq!(rt; input.instr(last, 1), Some(bit));
+    Ok(())
+}
+
+/// Fills the own tape of a rank, of which each third outcome is true.
+fn fill_own(rt: &impl Abort, input: &mut Input, rank: u16) -> Result<(), AllocError> {
+    for k in 0..MOST_OUTCOMES {
+        assert!(rt; rank < input.ranks());
+        assert!(rt; input.own(rank).len() == k);
+        input.push_own(rank, k % 3 == 0)?;
+    }
+    Ok(())
+}
+
+#[test]
+fn a_full_tape_keeps_its_last_outcome(rt: HostRuntime) -> Result<(), Fail> {
+    let mut input = Input::start(rt.alloc(), 1, 1)?;
+    fill_own(&rt, &mut input, 0)?;
+    assert!(rt; 0 < input.ranks());
+    let own = input.own(0);
+    assert_eq!(rt; own.len(), MOST_OUTCOMES);
+    assert_eq!(rt; own.get(MOST_OUTCOMES - 3), Some(&false));
+    assert_eq!(rt; own.get(MOST_OUTCOMES - 2), Some(&false));
+    assert_eq!(rt; own.get(MOST_OUTCOMES - 1), Some(&true));
     Ok(())
 }

@@ -2,11 +2,10 @@
 ghost use Rattle.qm_io.specs.Intake.{Takes};
 
 use crate::ends::Source;
+use qm_limits::MOST_BYTES;
 use std::alloc::Global;
 
-/// The most bytes that a text may have.
-pub const TEXT_LIMIT: usize = 1_048_576;
-
+/// How many bytes are asked of a source at once.
 const PIECE: usize = 4_096;
 
 /// Why a text was not read.
@@ -14,16 +13,16 @@ const PIECE: usize = 4_096;
 pub enum TextError {
     /// A read failed.
     ReadFault,
-    /// The source gave more than `TEXT_LIMIT` bytes.
+    /// The source gave more than [`MOST_BYTES`] bytes.
     TooLong,
     /// No memory was left for the text.
     Memory,
 }
 
-/// All bytes that the source has left, at most `TEXT_LIMIT`.
+/// All bytes that the source has left, at most [`MOST_BYTES`].
 /// `ReadFault` comes where a read failed, and `TooLong` where more bytes came and no read failed.
 /// `Memory` comes from the allocator alone.
-/// Each read but the last gives at least one byte, so there are at most `TEXT_LIMIT + 1` reads.
+/// Each read but the last gives at least one byte, so there are at most [`MOST_BYTES`] + 1 reads.
 pub fn read_all<I: Source>(alloc: Global, source: &mut I) -> Result<Vec<u8>, TextError>
     ensures { Takes (I.seen source.old) (I.seen source.new) result }
 {
@@ -36,7 +35,7 @@ pub fn read_all<I: Source>(alloc: Global, source: &mut I) -> Result<Vec<u8>, Tex
         if n == 0 {
             return Ok(text);
         }
-        if n > TEXT_LIMIT - text.len() {
+        if n > MOST_BYTES - text.len() {
             return Err(TextError::TooLong);
         }
         text.extend_from_slice(&piece[..n])

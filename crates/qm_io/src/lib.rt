@@ -10,7 +10,7 @@ mod std_source;
 mod sure_source;
 
 pub use ends::{Failed, Sink, Source};
-pub use intake::{TEXT_LIMIT, TextError, read_all};
+pub use intake::{TextError, read_all};
 pub use mem_sink::MemSink;
 pub use put::put_bytes;
 pub use std_sink::StdSink;

@@ -1,7 +1,7 @@
 //! Whole texts over ends that give little, take little, and fail.
-use crate::{
-    MemSink, Sink, StdSink, StdSource, SureSource, TEXT_LIMIT, TextError, put_bytes, read_all,
-};
+use crate::{MemSink, Sink, StdSink, StdSource, SureSource, TextError, put_bytes, read_all};
+use qm_limits::MOST_BYTES;
+use std::alloc::{AllocError, Global};
 use std::io;
 use std::io::{Cursor, Error, ErrorKind, Read, Write};
 use std::test::Fail;
@@ -98,18 +98,27 @@ fn a_text_goes_to_memory_until_a_call_fails(rt: HostRuntime) -> Result<(), Fail>
     Ok(())
 }
 
+/// A text of so many bytes, in which the bytes below 251 come again and again.
+fn text_of(alloc: Global, len: usize) -> Result<Vec<u8>, AllocError> {
+    let mut bytes = Vec::new(alloc);
+    for k in 0..len {
+        bytes.push((k % 251) as u8)?;
+    }
+    Ok(bytes)
+}
+
 #[test]
 fn a_text_is_read_up_to_the_limit(rt: HostRuntime) -> Result<(), Fail> {
     for (len, is_read) in [
         (0, true),
         (10, true),
-        (TEXT_LIMIT, true),
-        (TEXT_LIMIT + 1, false),
+        (MOST_BYTES, true),
+        (MOST_BYTES + 1, false),
     ] {
-        let bytes = vec![in rt.alloc(); b'.'; len]?;
-        let mut source = SureSource::start(bytes, 1_000);
+        let bytes = text_of(rt.alloc(), len)?;
+        let mut source = SureSource::start(text_of(rt.alloc(), len)?, 1_000);
         match read_all(rt.alloc(), &mut source) {
-            Ok(text) => assert!(rt; is_read && text.len() == len, "at {len}"),
+            Ok(text) => assert!(rt; is_read && text.as_slice() == bytes.as_slice(), "at {len}"),
             Err(error) => assert!(rt; !is_read && error == TextError::TooLong, "at {len}"),
         }
     }

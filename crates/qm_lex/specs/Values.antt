@@ -5,6 +5,7 @@ use Rattle.qm_lex.specs.declared.tokens.TokenKind.{TokenKind}
 use Rattle.qm_lex.specs.declared.tokens.TokenKind.TheVariants.{Word, Number, Symbol}
 use Rattle.qm_lex.specs.Lexing.{tokens_of, end_line}
 
+-- a token from one byte to another, on a line
 abbrev token : TokenKind → ℕ → ℕ → ℕ → Token
 token kind start stop line = record { kind = kind; start = start; stop = stop; line = line }
 

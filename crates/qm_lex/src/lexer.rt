@@ -6,11 +6,9 @@ ghost use Rattle.qm_lex.specs.Spans.{LieIn};
 
 use crate::bytes::{comment_len, is_blank, is_digit, is_letter, is_symbol, number_len, word_len};
 use crate::tokens::{Token, TokenKind, Tokens};
+use qm_limits::MOST_BYTES;
 use std::alloc::Global;
 use thiserror::Error;
-
-/// How many bytes a text may have.
-pub const MOST_BYTES: usize = 1_048_576;
 
 /// Why a text has no tokens.
 #[derive(Clone, Copy, Debug, PartialEq, Eq, Error)]
@@ -18,18 +16,19 @@ pub enum LexError {
     /// The first bad byte is on this line, and stands in no comment.
     #[error("line {line}: a byte that may not stand there")]
     BadByte { line: u32 },
+    /// The allocator has no memory left.
     #[error("out of memory")]
     Memory,
 }
 
-/// What stands at the front of a text.
-#[derive(Clone, Copy)]
-enum Piece {
-    /// A blank or a comment of so many bytes.
+/// What stands at the front of a text. A text is read piece by piece, and each piece has at least one byte.
+#[derive(Clone, Copy, Debug, PartialEq, Eq)]
+pub enum Piece {
+    /// A blank, or a comment up to its line feed, of so many bytes: no token.
     Gap(usize),
-    /// A token of so many bytes.
+    /// A token of this kind, of so many bytes. Words and numbers are as long as possible.
     Part(TokenKind, usize),
-    /// A byte with which no token begins.
+    /// A byte with which no token begins: the text has no tokens.
     Bad,
 }
 
@@ -65,7 +64,7 @@ fn line_after(byte: u8, line: u32) -> u32
     if byte == b'\n' { line + 1 } else { line }
 }
 
-/// The tokens of a text of at most 1,048,576 bytes. `BadByte` comes exactly where a byte outside comments begins no token, with the
+/// The tokens of a text of at most [`MOST_BYTES`] bytes. `BadByte` comes exactly where a byte outside comments begins no token, with the
 /// line of the first such byte; `Memory` only where memory runs out.
 pub fn lex(alloc: Global, text: &[u8]) -> Result<Tokens, LexError>
     requires { length text.now ≤ MOST_BYTES }

@@ -5,7 +5,7 @@ mod bytes;
 mod lexer;
 mod tokens;
 
-pub use lexer::{LexError, MOST_BYTES, lex};
+pub use lexer::{LexError, Piece, lex};
 pub use tokens::{Token, TokenKind, Tokens};
 
 #[cfg(test)]

@@ -1,5 +1,8 @@
 //! Texts with each kind of token, and the line of the first bad byte.
+ghost use Rattle.std.specs.Prelude.{◌≤◌, length};
+
 use super::*;
+use qm_limits::MOST_BYTES;
 use std::alloc::Global;
 use std::test::Fail;
 
@@ -10,10 +13,8 @@ enum Found {
     BadByte(u32),
 }
 
-ghost use Rattle.std.specs.Prelude.{◌≤◌, length};
-
 fn found_in(alloc: Global, text: &[u8]) -> Result<Found, Fail>
-    requires { length text.now ≤ 1048576 }
+    requires { length text.now ≤ MOST_BYTES }
 {
     match lex(alloc, text) {
         Ok(tokens) => Ok(Found::Tokens(tokens.len())),
@@ -23,7 +24,7 @@ fn found_in(alloc: Global, text: &[u8]) -> Result<Found, Fail>
 }
 
 #[test]
-fn tokens_and_bad_bytes(rt: HostRuntime) -> Result<(), Fail> {
+fn tokens_are_counted_up_to_a_bad_byte(rt: HostRuntime) -> Result<(), Fail> {
     let rows: [(&'static [u8], Found); 18] = [
         (b"", Found::Tokens(0)),
         (b" \t\r\n", Found::Tokens(0)),
@@ -45,10 +46,9 @@ fn tokens_and_bad_bytes(rt: HostRuntime) -> Result<(), Fail> {
         (b"\x80", Found::BadByte(1)),
     ];
     for (text, wanted) in rows {
-        if text.len() <= MOST_BYTES {
-            let found = found_in(rt.alloc(), text)?;
-            assert_eq!(rt; found, wanted);
-        }
+        assert!(rt; text.len() <= MOST_BYTES);
+        let found = found_in(rt.alloc(), text)?;
+        assert_eq!(rt; found, wanted);
     }
     Ok(())
 }

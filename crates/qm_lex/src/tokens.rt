@@ -1,5 +1,6 @@
 //! Tokens, and lists of them.
 ghost use Rattle.std.specs.Prelude.{length, ◌≤◌};
+ghost use Rattle.qm_limits.specs.declared.TheConstants.{MOST_BYTES};
 
 /// The kinds of tokens.
 #[derive(Clone, Copy, Debug, PartialEq, Eq)]
@@ -21,11 +22,11 @@ pub struct Token {
     pub line: u32,
 }
 
-/// The tokens of a text, in their order. There are at most 1,048,576.
+/// The tokens of a text, in their order. There are no more than a text has bytes.
 #[derive(Drop)]
 pub struct Tokens {
     pub(crate) items: Vec<Token>,
-    ghost few: { length items.items ≤ 1048576 },
+    ghost few: { length items.items ≤ MOST_BYTES },
 }
 
 impl Tokens {

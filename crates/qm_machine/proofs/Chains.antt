@@ -15,7 +15,7 @@ use Rattle.qm_proto.specs.declared.Row.{Row}
 use Rattle.qm_proto.specs.Model.Rows.{current}
 use Rattle.qm_proto.specs.Model.Runs.{events_at, moved_on, row_next, row_done, row_letters}
 use Rattle.qm_proto.specs.Model.Places.{Place, InSlot, NearOf, FarOf, IsAt}
-use Rattle.qm_proto.specs.Model.May.{Limits, limits_after, limits_after_all}
+use Rattle.qm_proto.specs.May.{Limits, limits_after, limits_after_all}
 use Rattle.qm_proto.proofs.ActLists.{all_done-append, all_letters-append, limits_after_all-append}
 use Rattle.qm_machine.specs.Facts.{Facts, is_pauli, limits_of, IsSound, Did, moved}
 use Rattle.qm_machine.specs.Tries.{Advanced}

@@ -10,7 +10,7 @@ use Rattle.qm_instr.specs.declared.Instr.TheVariants as instr
 use Rattle.qm_instr.specs.Programs.{Programs}
 use Rattle.qm_proto.specs.declared.Row.{Row}
 use Rattle.qm_proto.specs.Model.Acts.{list_of, all_done, more_at}
-use Rattle.qm_proto.specs.Model.May.{Limits, AllMay}
+use Rattle.qm_proto.specs.May.{Limits, AllMay}
 use Rattle.qm_proto.specs.Model.Rows.{rows, letter, few_if}
 use Rattle.qm_proto.specs.Model.State.{Tables, bit_of, first_bit, second_bit}
 use Rattle.qm_proto.proofs.Changes.{by_rank, with_at-here}

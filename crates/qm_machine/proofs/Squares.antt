@@ -16,7 +16,7 @@ use Rattle.qm_proto.specs.Model.State.{Tables, no_wire, with_at, with_part, far_
 use Rattle.qm_proto.specs.declared.Act.{Act}
 use Rattle.qm_proto.specs.declared.Act.TheVariants.{Fresh, Twin, Apply, NearOut, Settle, Posts, Fills, Receives, OwnUsed, ProtocolUsed, FirstKept, BitSet, SlotOut, FarOut}
 use Rattle.qm_proto.specs.Model.Acts.{counted, done, all_letters, more_at, less_at}
-use Rattle.qm_proto.specs.Model.May.{Limits, MayLetter, limits_after}
+use Rattle.qm_proto.specs.May.{Limits, MayLetter, limits_after}
 use Rattle.qm_proto.specs.Model.Places.{InSlot, NearOf, FarOf, IsPlaced, IsOnlyAt, IsOwn}
 use Rattle.qm_proto.proofs.TidyChanges.{slot_changed, near_more, far_more, near_less, far_less}
 use Rattle.qm_machine.specs.Facts.{Facts, IsSound, Can, Did, room_of, limits_of, is_pauli}

@@ -17,10 +17,10 @@ use Rattle.qm_proto.specs.Model.Acts.{done, more_at, all_done, all_letters}
 use Rattle.qm_proto.specs.Model.Runs.{moved_on}
 use Rattle.qm_proto.specs.Model.Schedules.{tables_at_start}
 use Rattle.qm_proto.specs.Model.Places.{IsPlaced}
-use Rattle.qm_proto.specs.Model.May.{Limits, AllMay, limits_after_all}
+use Rattle.qm_proto.specs.May.{Limits, AllMay, limits_after_all}
 
 -- the tables, the store, the places of the wires, the sizes of the ranks' buffers, how many parcels a lane has room for, how many ranks
--- there are, and how many letters were done, and how many of them are corrections
+-- there are, and how many letters were done, and how many of them are Pauli letters
 pub record Facts : Type 0 where
   pub tables : Tables
   pub store : Store
@@ -41,11 +41,12 @@ is_pauli _ = false
 abbrev pub room_of : Facts → ℕ
 room_of f = f.places.capacity - length f.store.live
 
+-- its ranks, for how many wires more it has places, how many parcels each lane may have, and how many letters more can be counted
 abbrev pub limits_of : Facts → Limits
 limits_of f = record { ranks = f.ranks; wires = room_of f; parcels = f.parcels; letters = 2 ^ 32 - f.letters }
 
 -- the live wires are those that have a place, no place is taken twice, each rank has slots, no more wires are live than may have a place,
--- the store has room for as many, and no more corrections were counted than letters
+-- the store has room for as many, and no more Pauli letters were counted than letters
 pub record IsSound (f : Facts) : Type 0 where
   pub live : (w : Wire) → Contains f.store.live w ↔ IsPlaced f.tables w
   pub placing : IsPlacing f.places.placed
@@ -71,6 +72,7 @@ MayCount sizes r (FarOut f m) held = held r ≢ 0
 MayCount sizes r (Settle f q) held = held r ≢ 0
 MayCount sizes r _ held = Unit {0}
 
+-- so it is for each of these acts, one after another
 abbrev pub AllMayCount : List ℕ → ℕ → List Act → Tables → Type 0
 AllMayCount sizes r [] t = Unit {0}
 AllMayCount sizes r (a ∷ acts) t = MayCount sizes r a t.held × AllMayCount sizes r acts (done r a t)

@@ -2,6 +2,7 @@
 use Rattle.std.specs.Prelude.{◌≡◌, ◌≢◌, ℕ, ◌<◌, ◌≤◌, ◌↔◌, ◌⊎◌, true, false, List, [], ◌∷◌, ◌++◌, Option, Some, None, length, count_by, Contains}
 use Rattle.qm_denot.specs.declared.Wire.{Wire}
 use Rattle.qm_denot.specs.Stores.{Store, StandsFor}
+use Rattle.qm_limits.specs.declared.TheConstants.{MOST_EVENTS}
 use Rattle.qm_instr.specs.declared.Lane.{Lane}
 use Rattle.qm_instr.specs.Programs.{Programs, IsInRange}
 use Rattle.qm_check.specs.Checks.{IsReady, capacity_of}
@@ -76,7 +77,7 @@ pub record Keeps {A : Type 0} (store : A → Store) (m : MachineView A) : Type 0
   pub ready : IsReady m.programs
   pub in_range : IsInRange m.programs
   pub legal : IsLegal m.programs m.schedule
-  pub short : length m.schedule ≤ 500000
+  pub short : length m.schedule ≤ MOST_EVENTS
   pub stands : StandsFor (store m.amps) (state_of m).circuit
   pub placed : (w : Wire) → Contains (store m.amps).live w ↔ IsPlaced (state_of m).tables w
   pub tidy : IsTidy (state_of m).tables
@@ -121,7 +122,7 @@ pub record StepDid {A : Type 0} (store : A → Store) (m : MachineView A) (r : �
   pub event_so : event_of (row_next m.programs (state_of m).tables r) ≡ Some event
   pub programs : n.programs ≡ m.programs
   pub schedule : n.schedule ≡ m.schedule ++ r ∷ []
-  pub short : length n.schedule ≤ 500000
+  pub short : length n.schedule ≤ MOST_EVENTS
   pub still : n.halted ≡ None
 
 -- a rank has an event left that is not enabled, while some rank may go on
@@ -192,6 +193,7 @@ pub record HasEnded {A : Type 0} (m : MachineView A) : Type 0 where
   pub running : m.halted ≡ None
   pub ended : AllEnded m.programs (state_of m).tables
 
+-- the answer tells the machine's state: some rank has an event left, none has, or this halt stands
 abbrev pub StateIs : {A : Type 0} → MachineView A → answer.State → Type 0
 StateIs m state.Running = Runs m
 StateIs m state.AllEnded = HasEnded m

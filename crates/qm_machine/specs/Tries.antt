@@ -15,7 +15,7 @@ use Rattle.qm_proto.specs.declared.Check.{Check}
 use Rattle.qm_proto.specs.declared.Row.{Row}
 use Rattle.qm_proto.specs.Model.Rows.{letter_checks}
 use Rattle.qm_proto.specs.Model.Runs.{FirstFails, NoneFails, next_tables, next_letters}
-use Rattle.qm_proto.specs.Model.May.{AllMayCheck}
+use Rattle.qm_proto.specs.May.{AllMayCheck}
 use Rattle.qm_machine.specs.Facts.{Facts, Can, Did, IsSound, is_pauli}
 
 -- no test fails, for whichever circuit the store stands

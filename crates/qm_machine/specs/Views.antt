@@ -77,6 +77,7 @@ pub record MailView : Type 0 where
   pub lanes : Lane → List Parcel
   pub parcels : Lane → ℕ
 
+-- what lanes show: their parcels, and room on each for as many as are sent
 abbrev pub mail_of : List Line → MailView
 mail_of m = record { lanes = λ a. parcels_on m a; parcels = λ a. sends_on m a }
 
@@ -97,6 +98,7 @@ tables_of ranks placed buffers m =
       lanes = m.lanes;
     }
 
+-- the tables that a machine's books mean
 unfoldable pub tables : Books → Tables
 tables b = tables_of b.ranks.items b.places.placed b.halves (mail_of b.mail)
 

@@ -2,7 +2,7 @@
 ghost use Rattle.std.specs.Prelude.{◌≡◌, ◌↔◌, [], ◌∷◌, true, OnOk, OnErr, IsErr};
 ghost use Rattle.qm_denot.specs.Stores.{MayGrow};
 ghost use Rattle.qm_proto.specs.Model.Acts.{list_of};
-ghost use Rattle.qm_proto.specs.Model.May.{MayCheck, AllMayCheck};
+ghost use Rattle.qm_proto.specs.May.{MayCheck, AllMayCheck};
 ghost use Rattle.qm_machine.specs.Facts.{IsSound};
 ghost use Rattle.qm_machine.specs.Tries.{CanTry, Tried, Asked, asked, is_sure, are_sure, MayGrowBy, AllOverflow};
 ghost use Rattle.qm_machine.specs.Views.{facts, tables, MayAct, Acted, MayDo, HasDone, IsUnchanged};

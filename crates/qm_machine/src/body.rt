@@ -90,7 +90,7 @@ impl<A: Amps> Body<A> {
         self.letters
     }
 
-    /// How many of them were corrections.
+    /// How many of them were Pauli letters.
     pub(crate) fn paulis(&self) -> u64
         ensures { result ≡ self.now.paulis }
     {

@@ -8,6 +8,7 @@ use crate::{Halt, Machine, State, Step, Why};
 use qm_check::check;
 use qm_denot::{Amps, PlainAmps, Wire};
 use qm_instr::{Gate, Input, Instr};
+use qm_limits::{BITS, MOST_CAPACITY, MOST_HALVES, MOST_RANKS, SLOTS};
 use qm_proto::Event;
 use qm_zomega::Zw;
 use std::alloc::{AllocError, Global};
@@ -74,10 +75,10 @@ fn has_operands(qubits: u8, instr: Instr) -> bool
 {
     match instr {
         Instr::Do { g } => has_slots(qubits, g),
-        Instr::When { b, g } => b < 32 && has_slots(qubits, g),
-        Instr::Measure { q, b } => q < qubits && b < 32,
-        Instr::Xor { b, c } => b < 32 && c < 32,
-        Instr::Set { b, .. } | Instr::SendBit { b, .. } | Instr::RecvBit { b, .. } => b < 32,
+        Instr::When { b, g } => b < BITS && has_slots(qubits, g),
+        Instr::Measure { q, b } => q < qubits && b < BITS,
+        Instr::Xor { b, c } => b < BITS && c < BITS,
+        Instr::Set { b, .. } | Instr::SendBit { b, .. } | Instr::RecvBit { b, .. } => b < BITS,
         Instr::ReachFrom { t, .. } => t < qubits,
         Instr::Alloc { q }
         | Instr::Free { q }
@@ -93,9 +94,9 @@ fn has_operands(qubits: u8, instr: Instr) -> bool
 
 /// Ranks of these sizes that do nothing.
 fn idle(rt: &impl Abort, alloc: Global, sizes: Sizes) -> Result<Input, AllocError> {
-    assert!(rt; (1..=16).contains(&sizes.ranks), "some ranks");
-    assert!(rt; (1..=16).contains(&sizes.qubits), "some qubits");
-    assert!(rt; (1..=8).contains(&sizes.buffer), "some places");
+    assert!(rt; (1..=MOST_RANKS).contains(&sizes.ranks), "some ranks");
+    assert!(rt; (1..=SLOTS).contains(&sizes.qubits), "some qubits");
+    assert!(rt; (1..=MOST_HALVES).contains(&sizes.buffer), "some places");
     let mut input = Input::start(alloc, 1, sizes.ranks)?;
     for rank in 0..sizes.ranks {
         assert!(rt; rank < input.ranks(), "there is a rank {rank}");
@@ -172,7 +173,7 @@ pub(crate) fn machine_of(
 ) -> Result<Machine<PlainAmps>, Fail> {
     let ready = check(alloc, input)?;
     let capacity = ready.capacity();
-    assert!(rt; capacity <= 22, "a narrow store");
+    assert!(rt; capacity <= MOST_CAPACITY, "a narrow store");
     let amps = PlainAmps::start(alloc, capacity)?;
     Ok(Machine::start(alloc, ready, amps)?)
 }

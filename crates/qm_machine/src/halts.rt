@@ -1,13 +1,24 @@
-//! Machines that halt, and that stay so. Where and why was worked out elsewhere.
-use crate::fixtures::{NARROW, SMALL, Sizes, did, follow, halts, machine_of, programs, push_all};
+//! Machines that halt, and that stay so. Where and why was worked out by hand.
+use crate::fixtures::{
+    NARROW, NONE, ONE, SMALL, Sizes, bits, did, follow, halts, machine_of, numerators_of, programs,
+    push_all,
+};
 use crate::instructions::{
     ALLOC, ALLOC_NEXT, COPY_BACK, COPY_BACK_FROM, COPY_BACK_NEXT_FROM, COPY_FROM, COPY_NEXT_FROM,
     COPY_TO, CROSS, FLIP, FREE, FREE_NEXT, HAD, TURN, UNDO_FROM, UNDO_TO,
 };
 use crate::{Cause, Halt, State, Step};
+use qm_denot::Wire;
 use qm_instr::Instr;
 use qm_proto::Event;
 use std::test::Fail;
+
+/// The first wire that rank 0 makes.
+const FIRST: Wire = Wire {
+    rank: 0,
+    made: 0,
+    near: false,
+};
 
 /// Rank 1 flips its copy before it gives it back.
 const FLIPPED_COPY: [(u16, Instr); 6] = [
@@ -54,7 +65,17 @@ fn a_zero_is_not_measured_as_one(rt: HostRuntime) -> Result<(), Fail> {
         turns: 1,
         cause: Cause::Impossible,
     };
-    halts(&rt, rt.alloc(), input, halt)
+    let mut machine = machine_of(&rt, rt.alloc(), input)?;
+    follow(
+        &rt,
+        &mut machine,
+        &[(0, did(Event::Alloc)), (0, Step::Halted)],
+    );
+    assert_eq!(rt; machine.state(), State::Halted { halt });
+    assert_eq!(rt; machine.schedule().len(), 1);
+    assert_eq!(rt; bits(&rt, &machine, 0), 0);
+    assert_eq!(rt; numerators_of(machine.amps(), FIRST), Some([ONE, NONE]));
+    Ok(())
 }
 
 /// A rank gives a one up, and a qubit that is zero in one branch alone.
@@ -148,7 +169,10 @@ fn an_overflow_halts_every_rank(rt: HostRuntime) -> Result<(), Fail> {
     for _ in 0..1014u32 {
         follow(&rt, &mut machine, &[(0, did(Event::Gate))]);
     }
+    let left = numerators_of(machine.amps(), FIRST);
+    assert!(rt; left.is_some());
     follow(&rt, &mut machine, &[(0, Step::Halted), (1, Step::Halted)]);
+    assert_eq!(rt; numerators_of(machine.amps(), FIRST), left);
     let halt = Halt {
         rank: 0,
         turns: 1015,

@@ -49,7 +49,7 @@ pub enum Step {
 pub enum Why {
     /// The lane that it receives from has no parcel with bits at its front.
     LaneEmpty,
-    /// The receiver of a pair has no room for one more half.
+    /// The receiver of a pair doesn't want it and has at most one place free, or has none.
     NoRoom,
     /// The source of a copy does not stand where the copy is taken back.
     PartnerElsewhere,

@@ -215,7 +215,7 @@ impl<A: Amps> Machine<A> {
         self.body.books.bits(rank as u16)
     }
 
-    /// The wire in a rank's slot. `None` exactly where it is empty, as each slot of a rank is that there isn't.
+    /// The wire in a rank's slot. `None` exactly where it is empty; a slot or a rank that there isn't counts as empty.
     pub fn slot(&self, rank: u32, q: u8) -> Option<Wire>
         ensures { result ≡ (state_of self.now).tables.slots rank q }
     {
@@ -242,7 +242,7 @@ impl<A: Amps> Machine<A> {
         self.body.letters()
     }
 
-    /// How many of them are corrections: a `Flip`, or the `Phase` of a sign.
+    /// How many of them are Pauli letters: a `Flip`, or the `Phase` of a sign.
     pub fn paulis(&self) -> u64
         ensures { result ≡ count_by is_pauli (state_of self.now).circuit }
     {

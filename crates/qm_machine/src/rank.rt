@@ -1,5 +1,6 @@
 //! One rank of a machine, but for its wires: how far it is in its program, its bits and its tapes.
 use qm_bits::{BITS, number_of_bits};
+use qm_limits::MOST_OUTCOMES;
 use qm_proto::Parcel;
 use qm_tape::Tape;
 use std::alloc::{AllocError, Global};
@@ -26,8 +27,8 @@ impl Rank {
 
     /// A rank before its first event, with these tapes. `AllocError` comes from the allocator alone.
     pub(crate) fn start(alloc: Global, own: &[bool], protocol: &[bool]) -> Result<Rank, AllocError>
-        requires own { length own.now ≤ 1048576 }
-        requires protocol { length protocol.now ≤ 1048576 }
+        requires own { length own.now ≤ MOST_OUTCOMES }
+        requires protocol { length protocol.now ≤ MOST_OUTCOMES }
         ensures { IfOk result (λ x. part_of x ≡ part_with own.now protocol.now) }
     {
         Ok(Rank {
@@ -155,7 +156,7 @@ impl Rank {
 
     /// Sets a bit.
     pub(crate) fn set_bit(&mut self, b: u8, v: bool)
-        requires { b < 32 }
+        requires { b < BITS }
         ensures { let x = part_of self.old in
             part_of self.new ≡ record x { bits = slice_set x.bits b v } }
     {

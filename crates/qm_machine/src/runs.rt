@@ -1,4 +1,4 @@
-//! Messages by every outcome, gates, and measurements on the machine. The events and the numbers were worked out elsewhere.
+//! Messages by every outcome, gates, and measurements on the machine. The events and the numbers were worked out by hand.
 use crate::fixtures::{
     EIGHTH, NARROW, NONE, ONE, QUARTER, SMALL, Sizes, THREE_EIGHTHS, bits, blocked, did, extent,
     follow, follow_to_end, machine_of, numerators, numerators_of, programs, run,

@@ -6,9 +6,8 @@ use Rattle.std.specs.Ordering.{is_eq}
 use Rattle.std.proofs.lemmas.Option.{same_Some}
 use Rattle.qm_denot.specs.declared.Parcel.{Parcel}
 use Rattle.qm_instr.specs.declared.Lane.{Lane}
-use Rattle.qm_instr.specs.Lanes.{is_lane}
+use Rattle.qm_instr.specs.Lanes.{code_order, is_lane}
 use Rattle.qm_instr.proofs.LaneOrder.{lane_order-derived, is_lane-order}
-use Rattle.qm_check.specs.Tallies.{code_order}
 use Rattle.qm_mail.specs.declared.Queue.{Queue}
 use Rattle.qm_mail.specs.Mails.{Line, parcels_on, sends_on, with_parcels}
 use Rattle.qm_mail.specs.Queues.{line_of, lines_of, parcels_in, sends_in}

@@ -8,9 +8,8 @@ use Rattle.std.specs.declared.cmp.Ordering.TheVariants.{Less, Greater}
 use Rattle.std.proofs.lemmas.Map.Keys.{sorted_head, sorted_tail}
 use Rattle.std.proofs.lemmas.Option.{same_Some}
 use Rattle.qm_instr.specs.declared.Lane.{Lane}
-use Rattle.qm_instr.specs.Lanes.{lane_order}
+use Rattle.qm_instr.specs.Lanes.{code_order, lane_order}
 use Rattle.qm_instr.proofs.LaneOrder.{lane_order-derived, lane_order-total}
-use Rattle.qm_check.specs.Tallies.{code_order}
 use Rattle.qm_check.specs.declared.LaneCount.{LaneCount}
 use Rattle.qm_mail.specs.declared.Queue.{Queue}
 use Rattle.qm_mail.specs.Mails.{Line, empty_line, IsBelow, AreRising}

@@ -79,8 +79,8 @@ impl Mail {
         }
     }
 
-    /// Puts a parcel at the lane's end. The lane is known and has fewer parcels than are sent on it, as wherever fewer than its sends
-    /// were posted.
+    /// Puts a parcel at the lane's end. The lane is known and has fewer parcels than are sent on it, which is so wherever fewer
+    /// than its sends were posted.
     pub fn post(&mut self, lane: Lane, parcel: Parcel)
         requires { length (parcels_on self.old lane) < sends_on self.old lane }
         ensures { self.new ≡ with_parcels self.old lane (parcels_on self.old lane ++ parcel ∷ []) }

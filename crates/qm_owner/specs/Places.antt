@@ -3,6 +3,7 @@ use Rattle.std.specs.Prelude.{◌≡◌, ℕ, nat_eq, nat_lt, Bool, true, false,
 use Rattle.qm_denot.specs.declared.Wire.{Wire}
 use Rattle.qm_denot.specs.Wires.{is_wire}
 use Rattle.qm_denot.specs.WireLists.{Distinct}
+use Rattle.qm_limits.specs.declared.TheConstants.{SLOTS}
 use Rattle.qm_owner.specs.declared.Place.{Place}
 use Rattle.qm_owner.specs.declared.Place.TheVariants.{Slot, Near, Far}
 
@@ -46,7 +47,7 @@ without (e ∷ es) w = if is_wire e.0 w then without es w else e ∷ without es 
 
 -- a slot is one of these ranks'
 abbrev pub is_known : ℕ → Place → Bool
-is_known ranks (Slot r q) = nat_lt r ranks && nat_lt q 16
+is_known ranks (Slot r q) = nat_lt r ranks && nat_lt q SLOTS
 is_known ranks (Near r) = true
 is_known ranks (Far r) = true
 
@@ -61,6 +62,7 @@ abbrev pub HasLoneSlots : List (Wire × Place) → Type 0
 HasLoneSlots [] = Unit {0}
 HasLoneSlots (e ∷ es) = IsFree es e.1 × HasLoneSlots es
 
+-- the wires that have a place
 abbrev pub wires_in : List (Wire × Place) → List Wire
 wires_in es = map (λ e. e.0) es
 

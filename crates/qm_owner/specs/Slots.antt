@@ -3,6 +3,7 @@ use Rattle.std.specs.Prelude.{◌≡◌, ℕ, ◌≤◌, List, [], length, All, 
 use Rattle.std.specs.Global.{Vec}
 use Rattle.std.specs.Vec.{vec_capacity}
 use Rattle.qm_denot.specs.declared.Wire.{Wire}
+use Rattle.qm_limits.specs.declared.TheConstants.{SLOTS}
 use Rattle.qm_owner.specs.declared.Place.{Place}
 use Rattle.qm_owner.specs.declared.Place.TheVariants.{Slot, Near, Far}
 use Rattle.qm_owner.specs.Places.{PlaceMap, wire_at, IsPlacing}
@@ -30,5 +31,5 @@ pub record IsKept (placed : Vec (Wire × Place)) (slots : List (List (Option Wir
   pub few : length placed.items ≤ capacity
   pub reserved : capacity ≤ vec_capacity placed
   pub placing : IsPlacing placed.items
-  pub rows : All (λ row. length row ≡ 16) slots
+  pub rows : All (λ row. length row ≡ SLOTS) slots
   pub table : (r q : ℕ) → slot_in slots r q ≡ wire_at placed.items (Slot r q)

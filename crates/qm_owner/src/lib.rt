@@ -14,7 +14,7 @@ use std::marker::Model;
 mod tests;
 
 /// How many slots each rank has here; a program may use fewer.
-pub const SLOTS: usize = 16;
+const SLOTS: usize = qm_limits::SLOTS as usize;
 
 /// A place of a wire.
 #[derive(Clone, Copy, PartialEq, Eq, Debug)]

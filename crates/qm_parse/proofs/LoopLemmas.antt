@@ -1,9 +1,7 @@
 -- The turns of the loop that reads tokens
-use Rattle.std.proofs.Common.{◌≡◌, ℕ, zero, suc, ◌+◌, ◌*◌, ◌-◌, ◌<◌, ◌≤◌, Bool, true, false, List, [], ◌∷◌, length, Option, Some, None, Err, refl, sym, ap, ◌∙◌, subst, arith, length-append}
+use Rattle.std.proofs.Common.{◌≡◌, ℕ, zero, suc, ◌+◌, ◌*◌, ◌-◌, ◌<◌, ◌≤◌, Bool, true, false, List, [], ◌∷◌, length, Option, Some, None, refl, sym, ap, ◌∙◌, subst, arith, length-append}
 use Rattle.std.proofs.lemmas.List.Sums.{sum_by-append, sum_by-cons}
 use Rattle.qm_lex.specs.declared.tokens.Token.{Token}
-use Rattle.qm_parse.specs.declared.errors.ParseError.{ParseError}
-use Rattle.qm_parse.specs.declared.errors.ParseError.TheVariants as errors
 use Rattle.qm_parse.specs.declared.goals.Goal.{Goal}
 use Rattle.qm_parse.specs.declared.goals.Goal.TheVariants as goal
 use Rattle.qm_parse.specs.declared.goals.Verdict.{Verdict}
@@ -14,7 +12,6 @@ use Rattle.qm_parse.specs.declared.tree.Node.{Node}
 use Rattle.qm_parse.specs.declared.tree.What.{What}
 use Rattle.qm_parse.specs.declared.words.Mark.TheVariants as mark
 use Rattle.qm_parse.specs.Signs.{Sign, signs_of}
-use Rattle.qm_parse.specs.Places.{Ends, Came}
 use Rattle.qm_parse.specs.Moves.{next_goals}
 use Rattle.qm_parse.specs.Verdicts.{verdict_of, leaf_of}
 use Rattle.qm_parse.specs.Weights.{weight_of, goals_weight, HasFewOperands}
@@ -24,10 +21,6 @@ use Rattle.qm_parse.proofs.WeightLemmas.{weight-stay, weight-take, take-token}
 pub length-signs : (text : List ℕ) (tokens : List Token) → length (signs_of text tokens) ≡ length tokens
 length-signs text [] = refl
 length-signs text (t ∷ ts) = ap (λ n. suc n) (length-signs text ts)
-
-pub Came-ends : (text : List ℕ) (tokens : List Token) (e : ParseError) → Ends text tokens e → Came text tokens (Err e)
-Came-ends text tokens errors.Memory h = tt
-Came-ends text tokens e h = h
 
 -- what is left to do at a place
 abbrev pub left_of : List Sign → Place → ℕ

@@ -1,5 +1,6 @@
 -- The trees of token lists, and the first token at which no tree goes on
 use Rattle.std.specs.Prelude.{◌≡◌, ℕ, ◌+◌, ◌-◌, ◌<◌, ◌⊎◌, List, [], ◌∷◌, ◌++◌}
+use Rattle.qm_limits.specs.declared.TheConstants.{LARGEST_VALUE, MOST_OPEN}
 use Rattle.qm_parse.specs.declared.words.Mark.{Mark}
 use Rattle.qm_parse.specs.declared.words.Mark.TheVariants as mark
 use Rattle.qm_parse.specs.Signs.{Sign, Number, Symbol}
@@ -23,11 +24,11 @@ open_after n (t ∷ ts) = open_after n ts
 
 -- a symbol may stand where so many are open: a 33rd isn't opened
 abbrev pub MayOpen : Mark → ℕ → Type 0
-MayOpen mark.OpenBrace n = n < 32
-MayOpen mark.OpenParenthesis n = n < 32
+MayOpen mark.OpenBrace n = n < MOST_OPEN
+MayOpen mark.OpenParenthesis n = n < MOST_OPEN
 MayOpen _ n = Unit {0}
 
--- no more than 32 are open at once, where so many are before these tokens
+-- no more than may be open are open at once, where so many are before these tokens
 abbrev pub IsShallow : ℕ → List Sign → Type 0
 IsShallow n [] = Unit {0}
 IsShallow n (Symbol m ∷ ts) = MayOpen m n × IsShallow (open_behind m n) ts
@@ -55,18 +56,18 @@ pub record StopsAt (signs front : List Sign) (stop : Sign) : Type 0 where
   pub shallow : IsShallow 0 front
 
 -- ---- the reasons to stop at a token, behind those in front
--- a number above 2147483647, where a number may stand
+-- a number above the largest value, where a number may stand
 pub record IsTooLarge (front : List Sign) (stop : Sign) : Type 0 where
   pub value : ℕ
   pub number : stop ≡ Number value
-  pub large : 2147483647 < value
+  pub large : LARGEST_VALUE < value
   pub small : ℕ
   pub may : CanGoOn (front ++ Number small ∷ [])
 
--- a { or a (, which may stand there, but 32 are open
+-- a { or a (, which may stand there, but as many are open as may be
 pub record IsTooDeep (front : List Sign) (stop : Sign) : Type 0 where
   pub opens : (stop ≡ Symbol mark.OpenBrace) ⊎ (stop ≡ Symbol mark.OpenParenthesis)
-  pub deep : open_after 0 front ≡ 32
+  pub deep : open_after 0 front ≡ MOST_OPEN
   pub may : CanGoOn (front ++ stop ∷ [])
 
 -- a token with which no program goes on, and no number that is too large

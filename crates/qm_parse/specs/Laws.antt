@@ -1,7 +1,8 @@
--- Tokens have one source tree at most, or one first fault, never both
-use Rattle.std.specs.Prelude.{◌≡◌, ℕ, List}
+-- Tokens have one source tree, or one first fault, and never both
+use Rattle.std.specs.Prelude.{◌≡◌, ℕ, ◌≤◌, ◌⊎◌, List, length, Ok}
 use Rattle.qm_lex.specs.declared.tokens.Token.{Token}
-use Rattle.qm_lex.specs.Lexing.{end_line}
+use Rattle.qm_limits.specs.declared.TheConstants.{MOST_BYTES}
+use Rattle.qm_lex.specs.Lexing.{end_line, tokens_of}
 use Rattle.qm_parse.specs.declared.errors.ParseError.{ParseError}
 use Rattle.qm_parse.specs.declared.errors.ParseError.TheVariants.{Unexpected, NumberTooLarge, TooDeep, Unended, Memory}
 use Rattle.qm_parse.specs.Signs.{Sign, signs_of}
@@ -17,12 +18,20 @@ Refused text tokens (TooDeep line) = StopsOn IsTooDeep text tokens line
 Refused text tokens (Unended line) = IsUnended (signs_of text tokens) × (line ≡ end_line text)
 Refused text tokens Memory = ⊥
 
+-- signs spell one program at most
 abbrev pub OneTree : Type 0
 OneTree = (signs : List Sign) (p q : Program) → Spells signs p → Spells signs q → p ≡ q
 
+-- tokens have one first fault at most
 abbrev pub OneFault : Type 0
 OneFault = (text : List ℕ) (tokens : List Token) (e f : ParseError) → Refused text tokens e → Refused text tokens f → e ≡ f
 
+-- tokens that spell a program have no fault
 abbrev pub TreeOrFault : Type 0
 TreeOrFault =
     (text : List ℕ) (tokens : List Token) (p : Program) (e : ParseError) → Spells (signs_of text tokens) p → ¬ Refused text tokens e
+
+-- the tokens of a text spell a program, or have a first fault
+abbrev pub SomeTreeOrFault : Type 0
+SomeTreeOrFault = (text : List ℕ) (tokens : List Token) → tokens_of text ≡ Ok tokens → length text ≤ MOST_BYTES
+    → ((p : Program) × Spells (signs_of text tokens) p) ⊎ ((e : ParseError) × Refused text tokens e)

@@ -14,6 +14,7 @@ leaf w token value number = record { what = w; token = token; value = value; sto
 abbrev pub around : What → ℕ → ℕ → List Node → List Node
 around w token number inner = record { what = w; token = token; value = 0; stop = number + 1 + length inner } ∷ inner
 
+-- the kind of an operator's node, for either level
 abbrev pub add_what : AddOp → What
 add_what Plus = what.Plus
 add_what Minus = what.Minus
@@ -56,14 +57,17 @@ abbrev mutual
 abbrev pub operand_nodes : (at base : ℕ) → Expr → List Node
 operand_nodes at base e = let inner = expr_nodes at base e in inner ++ leaf what.Arg at 0 (base + length inner) ∷ []
 
+-- operands or bounds, one behind the other
 abbrev pub operands_nodes : (at base : ℕ) → List Expr → List Node
 operands_nodes at base [] = []
 operands_nodes at base (e ∷ es) =
     let first = operand_nodes at base e in first ++ operands_nodes (at + length (expr_signs e)) (base + length first) es
 
+-- a call: a node around its operands
 abbrev pub call_nodes : (at base : ℕ) → Call → List Node
 call_nodes at base c = around what.Instr at base (operands_nodes (at + 1) (base + 1) c.operands)
 
+-- a loop's node stands around its two bounds and its body, a bit's instruction around the gate under it
 abbrev mutual
   pub body_nodes : (at base : ℕ) → Body → List Node
   body_nodes at base Nothing = []
@@ -88,6 +92,7 @@ each_nodes at base (b ∷ bs) =
     let first = around what.Block at base (body_nodes (at + 2) (base + 1) b) in
     first ++ each_nodes (at + 3 + length (body_signs b)) (base + length first) bs
 
+-- one block for all ranks, or one for each
 abbrev pub blocks_nodes : (at base : ℕ) → Blocks → List Node
 blocks_nodes at base (ForAll body) = around what.All at base (body_nodes (at + 1) (base + 1) body)
 blocks_nodes at base (ForEach bodies) = each_nodes at base bodies

@@ -31,6 +31,7 @@ pub record StopsOn (reason : List Sign → Sign → Type 0) (text : List ℕ) (t
   pub there : slice_get tokens (length front) ≡ Some token
   pub on : line ≡ token.line
 
+-- what parsing these tokens may answer: the nodes of a program, or a line and a reason; want of memory says nothing of them
 abbrev pub Parses : List ℕ → List Token → Result Tree ParseError → Type 0
 Parses text tokens (Ok tree) = IsTree (signs_of text tokens) (node_list tree)
 Parses text tokens (Err (Unexpected line)) = StopsOn IsUnexpected text tokens line

@@ -1,5 +1,5 @@
 -- Where a reading stands, and what it came to
-use Rattle.std.specs.Prelude.{◌≡◌, ℕ, ◌<◌, ◌≤◌, List, [], ◌∷◌, length, slice_get, Option, Some, None, option_map, Result, Ok, Err}
+use Rattle.std.specs.Prelude.{◌≡◌, ℕ, ◌<◌, ◌≤◌, List, [], ◌∷◌, length, slice_get, Option, Some, None, option_map}
 use Rattle.qm_lex.specs.declared.tokens.Token.{Token}
 use Rattle.qm_lex.specs.Lexing.{end_line}
 use Rattle.qm_parse.specs.declared.errors.ParseError.{ParseError}
@@ -10,13 +10,12 @@ use Rattle.qm_parse.specs.declared.goals.Stop.TheVariants as stop
 use Rattle.qm_parse.specs.declared.goals.Verdict.TheVariants as verdict
 use Rattle.qm_parse.specs.declared.reading.Reading.{Reading}
 use Rattle.qm_parse.specs.declared.tree.Node.{Node}
-use Rattle.qm_parse.specs.declared.tree.Tree.{Tree}
 use Rattle.qm_parse.specs.Moves.{goals_left}
-use Rattle.qm_parse.specs.Parsing.{node_list}
 use Rattle.qm_parse.specs.Reaching.{Place, Reaches, next_look}
 use Rattle.qm_parse.specs.Signs.{Sign, signs_of}
 use Rattle.qm_parse.specs.Verdicts.{verdict_of}
 
+-- where a reading stands
 abbrev pub place_of : Reading → Place
 place_of r = record { goals = goals_left r.goals; nodes = r.nodes.items; at = r.at; depth = r.depth }
 
@@ -52,8 +51,3 @@ pub record Comes (text : List ℕ) (tokens : List Token) (nodes : List Node) : T
   pub done : place.goals ≡ []
   pub whole : length tokens ≤ place.at
   pub nodes_are : nodes ≡ place.nodes
-
-abbrev pub Came : List ℕ → List Token → Result Tree ParseError → Type 0
-Came text tokens (Ok tree) = Comes text tokens (node_list tree)
-Came text tokens (Err errors.Memory) = Unit {0}
-Came text tokens (Err e) = Ends text tokens e

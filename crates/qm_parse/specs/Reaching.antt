@@ -21,6 +21,7 @@ pub record Place : Type 0 where
   pub at : ℕ
   pub depth : ℕ
 
+-- before the first token
 abbrev pub start_place : Place
 start_place = record { goals = start_goals; nodes = []; at = 0; depth = 0 }
 
@@ -31,6 +32,7 @@ with_stop stop n [] = []
 with_stop stop zero (x ∷ xs) = record x { stop = stop } ∷ xs
 with_stop stop (suc n) (x ∷ xs) = x ∷ with_stop stop n xs
 
+-- a node is written at the end, where there is one to write
 abbrev pub with_leaf : Option (What × ℕ × ℕ) → List Node → List Node
 with_leaf None ns = ns
 with_leaf (Some (w, token, value)) ns = ns ++ leaf w token value (length ns) ∷ []
@@ -40,10 +42,12 @@ abbrev pub closed : Goal → List Node → List Node
 closed (goal.Close node) ns = with_stop (length ns) node ns
 closed g ns = ns
 
+-- the nodes behind a goal: with its own node, or with the stop of the node that it ends
 abbrev pub written : Goal → Look → ℕ → List Node → List Node
 written g l at ns = closed g (with_leaf (leaf_of g l at) ns)
 
 -- ---- one goal further
+-- how many braces and parentheses are open behind a token, where so many were before it
 abbrev pub depth_behind : Look → ℕ → ℕ
 depth_behind (look.Mark m) n = open_behind m n
 depth_behind l n = n

@@ -49,6 +49,7 @@ sign kind.Symbol bytes = Symbol (mark_of (slice_index bytes 0))
 abbrev pub bytes_of : List ℕ → Token → List ℕ
 bytes_of text t = slice_range text t.start t.stop
 
+-- a token of a text, as the grammar sees it
 abbrev pub sign_of : List ℕ → Token → Sign
 sign_of text t = sign t.kind (bytes_of text t)
 

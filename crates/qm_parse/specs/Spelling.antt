@@ -7,6 +7,7 @@ use Rattle.qm_parse.specs.Words.{bits_word}
 use Rattle.qm_parse.specs.Signs.{Sign, Number, Key, Act, Ident, Symbol}
 use Rattle.qm_parse.specs.Trees.{AddOp, Plus, Minus, MulOp, Times, Over, Rest, Expr, Sum, Adds, NoAdd, Add, Term, Product, Muls, NoMul, Mul, Prim, Num, Name, Rank, Size, Paren, Call, Body, Nothing, Then, Stmt, Do, DoUnder, For, Blocks, ForAll, ForEach, TapeLine, Program}
 
+-- the symbol of an operator, for either level
 abbrev pub add_mark : AddOp → Mark
 add_mark Plus = mark.Plus
 add_mark Minus = mark.Minus
@@ -16,6 +17,7 @@ mul_mark Times = mark.Times
 mul_mark Over = mark.Over
 mul_mark Rest = mark.Rest
 
+-- an expression, level by level
 abbrev mutual
   pub expr_signs : Expr → List Sign
   expr_signs (Sum t more) = term_signs t ++ adds_signs more
@@ -38,13 +40,16 @@ abbrev mutual
   prim_signs Size = Key keyword.Size ∷ []
   prim_signs (Paren e) = Symbol mark.OpenParenthesis ∷ (expr_signs e ++ Symbol mark.CloseParenthesis ∷ [])
 
+-- operands, one behind the other
 abbrev pub operands_signs : List Expr → List Sign
 operands_signs [] = []
 operands_signs (e ∷ es) = expr_signs e ++ operands_signs es
 
+-- a verb, and its operands
 abbrev pub call_signs : Call → List Sign
 call_signs c = Act c.verb ∷ operands_signs c.operands
 
+-- the instructions and loops of a body; a loop's body stands in braces
 abbrev mutual
   pub body_signs : Body → List Sign
   body_signs Nothing = []
@@ -62,10 +67,12 @@ abbrev pub each_signs : ℕ → List Body → List Sign
 each_signs rank [] = []
 each_signs rank (b ∷ bs) = Key keyword.Rank ∷ Number rank ∷ (body_signs b ++ Key keyword.End ∷ each_signs (rank + 1) bs)
 
+-- one block for all ranks, or one for each from rank 0 on
 abbrev pub blocks_signs : Blocks → List Sign
 blocks_signs (ForAll body) = Key keyword.All ∷ (body_signs body ++ Key keyword.End ∷ [])
 blocks_signs (ForEach bodies) = each_signs 0 bodies
 
+-- a tape's line, and the lines of all tapes
 abbrev pub tape_signs : TapeLine → List Sign
 tape_signs t = Key (if t.own then keyword.Own else keyword.Protocol) ∷ Number t.rank ∷ Ident (bits_word t.outcomes) ∷ []
 
@@ -73,6 +80,7 @@ abbrev pub tapes_signs : List TapeLine → List Sign
 tapes_signs [] = []
 tapes_signs (t ∷ ts) = tape_signs t ++ tapes_signs ts
 
+-- a whole program: its head, its blocks, its tapes
 abbrev pub program_signs : Program → List Sign
 program_signs p =
     Key keyword.Qmpi ∷ Number 1 ∷ Key keyword.Ranks ∷ Number p.ranks ∷ Key keyword.Qubits ∷ Number p.qubits

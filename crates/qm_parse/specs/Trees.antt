@@ -1,5 +1,6 @@
 -- Source trees
 use Rattle.std.specs.Prelude.{◌≡◌, ℕ, ◌<◌, ◌≤◌, Bool, true, false, List, length, All}
+use Rattle.qm_limits.specs.declared.TheConstants.{LARGEST_VALUE, MOST_RANKS, SLOTS, MOST_HALVES}
 use Rattle.qm_parse.specs.declared.words.Verb.{Verb}
 use Rattle.qm_parse.specs.Words.{operands_of, is_gate, takes_gate}
 
@@ -8,6 +9,7 @@ pub data AddOp : Type 0 where
   Plus : AddOp
   Minus : AddOp
 
+-- and those of the level that binds more tightly
 pub data MulOp : Type 0 where
   Times : MulOp
   Over : MulOp
@@ -74,7 +76,7 @@ pub record Program : Type 0 where
   pub blocks : Blocks
   pub tapes : List TapeLine
 
--- ---- the trees that may be: each number of an expression is at most 2147483647
+-- ---- the trees that may be: each number of an expression is at most the largest value
 abbrev mutual
   pub ExprMay : Expr → Type 0
   ExprMay (Sum t more) = TermMay t × AddsMay more
@@ -91,7 +93,7 @@ abbrev mutual
   MulsMay (Mul op p more) = PrimMay p × MulsMay more
 
   pub PrimMay : Prim → Type 0
-  PrimMay (Num v) = v ≤ 2147483647
+  PrimMay (Num v) = v ≤ LARGEST_VALUE
   PrimMay (Name bytes) = Unit {0}
   PrimMay Rank = Unit {0}
   PrimMay Size = Unit {0}
@@ -102,6 +104,7 @@ pub record CallMay (c : Call) : Type 0 where
   pub count : length c.operands ≡ length (operands_of c.verb)
   pub operands : All ExprMay c.operands
 
+-- a gate's call stands behind each call of `when`, and behind no other; the body of a loop may be, too
 abbrev mutual
   pub BodyMay : Body → Type 0
   BodyMay Nothing = Unit {0}
@@ -119,13 +122,13 @@ abbrev pub BlocksMay : ℕ → Blocks → Type 0
 BlocksMay ranks (ForAll body) = BodyMay body
 BlocksMay ranks (ForEach bodies) = (length bodies ≡ ranks) × All BodyMay bodies
 
--- 1 to 16 ranks with 1 to 16 qubits and a buffer of 1 to 8; each tape is that of a rank
+-- some ranks, qubits and places of a buffer, but none too many; each tape is that of a rank
 pub record ProgramMay (p : Program) : Type 0 where
   pub some_ranks : 1 ≤ p.ranks
-  pub few_ranks : p.ranks ≤ 16
+  pub few_ranks : p.ranks ≤ MOST_RANKS
   pub some_qubits : 1 ≤ p.qubits
-  pub few_qubits : p.qubits ≤ 16
+  pub few_qubits : p.qubits ≤ SLOTS
   pub some_buffer : 1 ≤ p.buffer
-  pub small_buffer : p.buffer ≤ 8
+  pub small_buffer : p.buffer ≤ MOST_HALVES
   pub blocks : BlocksMay p.ranks p.blocks
   pub tapes : All (λ t. t.rank < p.ranks) p.tapes

@@ -21,6 +21,7 @@ use Rattle.qm_parse.specs.Faults.{open_after}
 
 -- ---- words
 
+-- three verbs: a gate, one that a gate follows, and a collective
 abbrev verb_x : Verb
 verb_x = record { action = action.One one.X; operands = Some operand.Slot ∷ None ∷ None ∷ None ∷ [] }
 
@@ -53,12 +54,15 @@ outcomes_word : bits_word (false ∷ true ∷ []) ≡ codes "b01"
 outcomes_word = refl
 
 -- ---- a program
+-- a loop with a gate under a bit, an empty block, and a tape
 abbrev text : List ℕ
 text = codes "qmpi 01 ranks 2 qubits 3 buffer 4 rank 0 for i in 0..2+(rank)*i { when i x 1 } end rank 1 end own 1 b01"
 
+-- an expression without operators
 abbrev single : Prim → Expr
 single p = Sum (Product p NoMul) NoAdd
 
+-- the loop of the text
 abbrev loop : Stmt
 loop = For (codes "i")
     (single (Num 0))
@@ -67,6 +71,7 @@ loop = For (codes "i")
     (record { verb = verb_when; operands = single (Name (codes "i")) ∷ [] })
     (record { verb = verb_x; operands = single (Num 1) ∷ [] })) Nothing)
 
+-- the tree of the text
 abbrev program : Program
 program = record {
   ranks = 2;
@@ -84,6 +89,7 @@ signs_in bytes (Err line) = []
 program_spelled : program_signs program ≡ signs_in text (tokens_of text)
 program_spelled = refl
 
+-- a node with its four parts
 abbrev node : What → ℕ → ℕ → ℕ → Node
 node w token value stop = record { what = w; token = token; value = value; stop = stop }
 
@@ -101,6 +107,7 @@ program_written : program_nodes program ≡
 program_written = refl
 
 -- ---- open braces and parentheses
+-- so many parentheses that open
 abbrev opened : ℕ → List Sign
 opened n = replicate n (Symbol mark.OpenParenthesis)
 

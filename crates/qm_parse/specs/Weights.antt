@@ -11,6 +11,7 @@ weight_of (goal.Operands left) = 5 * left + 1
 weight_of (goal.Blocks ranks) = 2
 weight_of g = 1
 
+-- how many they make together
 abbrev pub goals_weight : List Goal → ℕ
 goals_weight gs = sum_by weight_of gs
 

@@ -7,15 +7,16 @@ pub enum ParseError {
     /// It may not stand there, or it is a number outside the range of its place.
     #[error("line {line}: a token that may not stand there")]
     Unexpected { line: u32 },
-    /// It is a number above 2,147,483,647 where a number may stand.
+    /// It is a number above [`qm_limits::LARGEST_VALUE`] where a number may stand.
     #[error("line {line}: a number that is too large")]
     NumberTooLarge { line: u32 },
-    /// It is a `{` or a `(` where one may stand, but 32 are open.
+    /// It is a `{` or a `(` where one may stand, but [`qm_limits::MOST_OPEN`] are open.
     #[error("line {line}: too many open braces and parentheses")]
     TooDeep { line: u32 },
-    /// The text ends before the program does.
+    /// The text ends before the program does. Its line is one more than the text's line feeds.
     #[error("line {line}: the text ends too early")]
     Unended { line: u32 },
+    /// The allocator has no memory left.
     #[error("out of memory")]
     Memory,
 }

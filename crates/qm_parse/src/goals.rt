@@ -2,19 +2,10 @@
 ghost use Rattle.std.specs.Prelude.{◌≡◌};
 ghost use Rattle.qm_parse.specs.Verdicts.{is_fixed, verdict_if, stay_unless, number_verdict, open_verdict, prim_verdict, braced_verdict, mul_op, add_op, is_gate_verb, is_rank, is_all, is_tape, is_bits_name, is_name, is_statement, verdict_of, number_leaf, tape_leaf, body_leaf, gate_leaf, prim_leaf, leaf_at, leaf_of};
 
-use crate::looks::{LARGEST, Look};
+use crate::looks::Look;
 use crate::tree::What;
 use crate::words::{Keyword, Mark};
-
-/// How many braces and parentheses may be open.
-pub(crate) const MOST_OPEN: u32 = 32;
-
-/// How many ranks and qubits there may be, and how large a buffer.
-pub(crate) const MOST_RANKS: u32 = 16;
-
-pub(crate) const MOST_QUBITS: u32 = 16;
-
-pub(crate) const MOST_BUFFER: u32 = 8;
+use qm_limits::{LARGEST_VALUE, MOST_OPEN, MOST_RANKS};
 
 /// A token that stands alone.
 #[derive(Clone, Copy)]
@@ -38,12 +29,17 @@ pub(crate) enum Goal {
     Number { least: u32, end: u32, written: bool },
     /// The number of ranks, and all that follows it.
     Ranks,
+    /// The block of all ranks, or one for each of so many.
     Blocks { ranks: u32 },
     /// The blocks of the ranks from `next` on.
     Each { next: u32, ranks: u32 },
+    /// Lines of outcomes for the tapes of so many ranks.
     Tapes { ranks: u32 },
+    /// A word of outcomes.
     Outcomes,
+    /// The name of a loop.
     Name,
+    /// Instructions and loops, as many as there are.
     Body,
     /// A body in braces.
     Braced,
@@ -51,6 +47,7 @@ pub(crate) enum Goal {
     Operands { left: u32 },
     /// A gate under a `when`.
     Gate,
+    /// A number, a name, `rank`, `size`, or an expression in parentheses.
     Prim,
     /// Operators of the level of `*`, and their right sides.
     Muls,
@@ -77,6 +74,7 @@ pub(crate) enum Verdict {
     Take,
     /// The goal is empty, or others stand for it.
     Stay,
+    /// No program goes on with it.
     Stop(Stop),
 }
 
@@ -97,6 +95,7 @@ fn is_fixed(fixed: Fixed, look: Look) -> bool
     }
 }
 
+/// A token that has to be of some kind, by whether it is.
 fn verdict_if(is_first: bool) -> Verdict
     ensures { result ≡ verdict_if is_first }
 {
@@ -107,6 +106,7 @@ fn verdict_if(is_first: bool) -> Verdict
     }
 }
 
+/// A token that may be of some kind, by whether it is.
 fn stay_unless(is_first: bool) -> Verdict
     ensures { result ≡ stay_unless is_first }
 {
@@ -122,7 +122,7 @@ fn number_verdict(look: Look, least: u32, end: u32) -> Verdict
     ensures { result ≡ number_verdict look least end }
 {
     match look {
-        Look::Number(value) if value > LARGEST => Verdict::Stop(Stop::NumberTooLarge),
+        Look::Number(value) if value > LARGEST_VALUE => Verdict::Stop(Stop::NumberTooLarge),
         Look::Number(value) => verdict_if(least <= value && value < end),
         _ => Verdict::Stop(Stop::Unexpected),
     }
@@ -139,17 +139,19 @@ fn open_verdict(depth: u32) -> Verdict
     }
 }
 
+/// The first token of a number, a name, `rank`, `size`, or an expression in parentheses.
 fn prim_verdict(look: Look, depth: u32) -> Verdict
     ensures { result ≡ prim_verdict look depth }
 {
     match look {
-        Look::Number(_) => number_verdict(look, 0, LARGEST + 1),
+        Look::Number(_) => number_verdict(look, 0, LARGEST_VALUE + 1),
         Look::Name(_) | Look::Keyword(Keyword::Rank | Keyword::Size) => Verdict::Take,
         Look::Mark(Mark::OpenParenthesis) => open_verdict(depth),
         _ => Verdict::Stop(Stop::Unexpected),
     }
 }
 
+/// The brace before a body.
 fn braced_verdict(look: Look, depth: u32) -> Verdict
     ensures { result ≡ braced_verdict look depth }
 {
@@ -182,6 +184,7 @@ pub(crate) fn add_op(look: Look) -> Option<What>
     }
 }
 
+/// Whether it names a gate.
 fn is_gate_verb(look: Look) -> bool
     ensures { result ≡ is_gate_verb look }
 {
@@ -191,30 +194,35 @@ fn is_gate_verb(look: Look) -> bool
     }
 }
 
+/// Whether it is the word before the block of one rank.
 fn is_rank(look: Look) -> bool
     ensures { result ≡ is_rank look }
 {
     matches!(look, Look::Keyword(Keyword::Rank))
 }
 
+/// Whether it is the word before the block of all ranks.
 pub(crate) fn is_all(look: Look) -> bool
     ensures { result ≡ is_all look }
 {
     matches!(look, Look::Keyword(Keyword::All))
 }
 
+/// Whether a tape's line begins with it.
 pub(crate) fn is_tape(look: Look) -> bool
     ensures { result ≡ is_tape look }
 {
     matches!(look, Look::Keyword(Keyword::Own | Keyword::Protocol))
 }
 
+/// Whether it is a word of outcomes.
 fn is_bits_name(look: Look) -> bool
     ensures { result ≡ is_bits_name look }
 {
     matches!(look, Look::Name(true))
 }
 
+/// Whether it is a word that a loop may have as its name.
 fn is_name(look: Look) -> bool
     ensures { result ≡ is_name look }
 {
@@ -235,7 +243,7 @@ pub(crate) fn verdict_of(goal: Goal, look: Look, depth: u32) -> Verdict
     match goal {
         Goal::Fixed(fixed) => verdict_if(is_fixed(fixed, look)),
         Goal::Number { least, end, .. } => number_verdict(look, least, end),
-        Goal::Ranks => number_verdict(look, 1, MOST_RANKS + 1),
+        Goal::Ranks => number_verdict(look, 1, u32::from(MOST_RANKS) + 1),
         Goal::Blocks { .. } => stay_unless(is_all(look)),
         Goal::Each { next, ranks } if next < ranks => verdict_if(is_rank(look)),
         Goal::Tapes { .. } => stay_unless(is_tape(look)),
@@ -252,6 +260,7 @@ pub(crate) fn verdict_of(goal: Goal, look: Look, depth: u32) -> Verdict
     }
 }
 
+/// What a number's node stands for, and its value.
 fn number_leaf(look: Look) -> Option<(What, u32)>
     ensures { result ≡ number_leaf look }
 {
@@ -261,6 +270,7 @@ fn number_leaf(look: Look) -> Option<(What, u32)>
     }
 }
 
+/// The same of a tape's line.
 fn tape_leaf(look: Look) -> Option<(What, u32)>
     ensures { result ≡ tape_leaf look }
 {
@@ -271,6 +281,7 @@ fn tape_leaf(look: Look) -> Option<(What, u32)>
     }
 }
 
+/// The same of an instruction or a loop.
 fn body_leaf(look: Look) -> Option<(What, u32)>
     ensures { result ≡ body_leaf look }
 {
@@ -281,6 +292,7 @@ fn body_leaf(look: Look) -> Option<(What, u32)>
     }
 }
 
+/// The same of a gate under a `when`.
 fn gate_leaf(look: Look) -> Option<(What, u32)>
     ensures { result ≡ gate_leaf look }
 {
@@ -290,6 +302,7 @@ fn gate_leaf(look: Look) -> Option<(What, u32)>
     }
 }
 
+/// The same of a number, a name, `rank` or `size`.
 fn prim_leaf(look: Look) -> Option<(What, u32)>
     ensures { result ≡ prim_leaf look }
 {

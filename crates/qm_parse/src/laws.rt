@@ -1,6 +1,6 @@
 //! The laws of parsing, for any tokens.
 
-ghost use Rattle.qm_parse.specs.Laws.{OneFault, OneTree, TreeOrFault};
+ghost use Rattle.qm_parse.specs.Laws.{OneFault, OneTree, SomeTreeOrFault, TreeOrFault};
 
 /// Tokens spell one source tree at most.
 pub fn one_tree()
@@ -15,4 +15,9 @@ pub fn one_fault()
 /// Tokens that spell a source tree have no fault.
 pub fn tree_or_fault()
     ensures { TreeOrFault }
+{}
+
+/// The tokens of a text spell a source tree, or have a first fault.
+pub fn some_tree_or_fault()
+    ensures { SomeTreeOrFault }
 {}

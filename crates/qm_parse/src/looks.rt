@@ -10,14 +10,12 @@ ghost use Rattle.qm_parse.specs.Weights.{HasFewOperands};
 
 use crate::words::{Keyword, Mark, Reserved, Verb, reserved_of};
 use qm_lex::{TokenKind, Tokens};
-
-/// The largest number that a text may have.
-pub(crate) const LARGEST: u32 = 2_147_483_647;
+use qm_limits::LARGEST_VALUE;
 
 /// A token as the reading sees it.
 #[derive(Clone, Copy)]
 pub(crate) enum Look {
-    /// A number with this value; any above 2,147,483,647 is seen as 2,147,483,648.
+    /// A number with this value; any above [`LARGEST_VALUE`] is seen as the next one.
     Number(u32),
     Keyword(Keyword),
     Verb(Verb),
@@ -28,7 +26,7 @@ pub(crate) enum Look {
     End,
 }
 
-/// The value of decimal digits, or 2,147,483,648 where it is larger.
+/// The value of decimal digits, or the number after [`LARGEST_VALUE`] where it is larger.
 fn value_of(digits: &[u8]) -> u32
     ensures { result ≡ capped (value_of digits.now) }
 {
@@ -39,12 +37,12 @@ fn value_of(digits: &[u8]) -> u32
     value
 }
 
-/// The number, or 2,147,483,648 where it is larger.
+/// The number, or the one after [`LARGEST_VALUE`] where it is larger.
 fn capped(value: u64) -> u32
     ensures { result ≡ capped value }
 {
-    if value > u64::from(LARGEST) {
-        LARGEST + 1
+    if value > u64::from(LARGEST_VALUE) {
+        LARGEST_VALUE + 1
     } else {
         value as u32
     }
@@ -57,12 +55,14 @@ fn is_bits(word: &[u8]) -> bool
     !word.is_empty() && word[0] == b'b' && are_outcomes(&word[1..])
 }
 
+/// Whether each of them is 0 or 1.
 fn are_outcomes(digits: &[u8]) -> bool
     ensures { result ≡ list_all is_outcome digits.now }
 {
     digits.iter().all(|digit| is_outcome(*digit))
 }
 
+/// Whether the digit is 0 or 1.
 fn is_outcome(digit: u8) -> bool
     ensures { result ≡ is_outcome digit }
 {

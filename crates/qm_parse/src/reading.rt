@@ -3,7 +3,7 @@ ghost use Rattle.std.specs.Prelude.{◌≡◌, ◌+◌, ◌<◌, ◌≤◌, leng
 ghost use Rattle.qm_lex.specs.Lexing.{end_line, token_list, tokens_of};
 ghost use Rattle.qm_parse.specs.Reaching.{depth_behind, with_stop};
 ghost use Rattle.qm_parse.specs.Parsing.{Parses};
-ghost use Rattle.qm_parse.specs.Places.{error_of, Came};
+ghost use Rattle.qm_parse.specs.Places.{error_of};
 
 use crate::errors::ParseError;
 use crate::goals::{Fixed, Goal, Stop, Verdict, leaf_of, verdict_of};
@@ -11,7 +11,8 @@ use crate::looks::{Look, look_at};
 use crate::stack::Goals;
 use crate::tree::{Node, Tree};
 use crate::words::Mark;
-use qm_lex::{MOST_BYTES, Tokens};
+use qm_lex::Tokens;
+use qm_limits::MOST_BYTES;
 use std::alloc::{AllocError, Global};
 
 /// How far a text was read.
@@ -156,8 +157,7 @@ fn error_at(text: &[u8], tokens: &Tokens, at: u32, stop: Stop) -> ParseError
 pub fn parse(alloc: Global, text: &[u8], tokens: &Tokens) -> Result<Tree, ParseError>
     requires small { length text.now ≤ MOST_BYTES }
     requires tokens { tokens_of text.now ≡ Ok (token_list tokens.now) }
-    ensures parses { Parses text.now (token_list tokens.now) result }
-    ensures came { Came text.now (token_list tokens.now) result }
+    ensures { Parses text.now (token_list tokens.now) result }
 {
     let Ok(mut reading) = Reading::start(alloc) else {
         return Err(ParseError::Memory);

@@ -2,10 +2,11 @@
 ghost use Rattle.std.specs.Prelude.{◌≡◌, ◌++◌, ◌∷◌, [], OnOk, MatchOption};
 ghost use Rattle.qm_parse.specs.Moves.{ranks_goals, frame_goals, statement_goals, gate_goals, body_goals, prim_goals, muls_goals, adds_goals, expr_goals, next_goals};
 
-use crate::goals::{Fixed, Goal, MOST_BUFFER, MOST_QUBITS, add_op, is_all, is_tape, mul_op};
+use crate::goals::{Fixed, Goal, add_op, is_all, is_tape, mul_op};
 use crate::looks::Look;
 use crate::tree::What;
 use crate::words::{Keyword, Mark};
+use qm_limits::{MOST_HALVES, SLOTS};
 use std::alloc::{AllocError, Global};
 
 /// The goals that are left.
@@ -67,6 +68,7 @@ impl Goals {
         }
     }
 
+    /// Puts what stands for a goal of the frame, or follows its first token, in front.
     fn push_frame(&mut self, goal: Goal, look: Look, base: u32) -> Result<(), AllocError>
         ensures { OnOk result
             (goals_left self.new ≡ frame_goals goal look base ++ goals_left self.old) }
@@ -109,6 +111,7 @@ impl Goals {
         }
     }
 
+    /// Puts what follows the number of ranks in front.
     fn push_ranks(&mut self, look: Look) -> Result<(), AllocError>
         ensures { OnOk result (goals_left self.new ≡ ranks_goals look ++ goals_left self.old) }
     {
@@ -117,13 +120,13 @@ impl Goals {
                 Goal::Fixed(Fixed::Qubits),
                 Goal::Number {
                     least: 1,
-                    end: MOST_QUBITS + 1,
+                    end: u32::from(SLOTS) + 1,
                     written: true,
                 },
                 Goal::Fixed(Fixed::Buffer),
                 Goal::Number {
                     least: 1,
-                    end: MOST_BUFFER + 1,
+                    end: u32::from(MOST_HALVES) + 1,
                     written: true,
                 },
                 Goal::Blocks { ranks },
@@ -133,6 +136,7 @@ impl Goals {
         }
     }
 
+    /// Puts what stands for a goal of a body, or follows its first token, in front.
     fn push_body(&mut self, goal: Goal, look: Look, base: u32) -> Result<(), AllocError>
         ensures { OnOk result
             (goals_left self.new ≡ body_goals goal look base ++ goals_left self.old) }
@@ -145,6 +149,7 @@ impl Goals {
         }
     }
 
+    /// Puts what follows the first token of an instruction or a loop in front, and the rest of the body.
     fn push_statement(&mut self, look: Look, base: u32) -> Result<(), AllocError>
         ensures { OnOk result
             (goals_left self.new ≡ statement_goals look base ++ goals_left self.old) }
@@ -175,6 +180,7 @@ impl Goals {
         }
     }
 
+    /// Puts what follows the verb of a gate under a `when` in front.
     fn push_gate(&mut self, look: Look, base: u32) -> Result<(), AllocError>
         ensures { OnOk result (goals_left self.new ≡ gate_goals look base ++ goals_left self.old) }
     {
@@ -189,6 +195,7 @@ impl Goals {
         }
     }
 
+    /// Puts what stands for a goal of an expression, or follows its first token, in front.
     fn push_expr(&mut self, goal: Goal, look: Look, at: u32) -> Result<(), AllocError>
         ensures { OnOk result
             (goals_left self.new ≡ expr_goals goal look at ++ goals_left self.old) }
@@ -211,6 +218,7 @@ impl Goals {
         }
     }
 
+    /// Puts an expression and the parenthesis that closes it in front, where the token opens one.
     fn push_prim(&mut self, look: Look) -> Result<(), AllocError>
         ensures { OnOk result (goals_left self.new ≡ prim_goals look ++ goals_left self.old) }
     {
@@ -227,6 +235,7 @@ impl Goals {
         }
     }
 
+    /// Puts the right side of an operator of the level of `*` in front, its node, and more of them.
     fn push_muls(&mut self, op: Option<What>, at: u32) -> Result<(), AllocError>
         ensures { OnOk result (goals_left self.new ≡ muls_goals op at ++ goals_left self.old) }
     {
@@ -236,6 +245,7 @@ impl Goals {
         }
     }
 
+    /// Puts the right side of an operator of the level of `+` in front, its node, and more of them.
     fn push_adds(&mut self, op: Option<What>, at: u32) -> Result<(), AllocError>
         ensures { OnOk result (goals_left self.new ≡ adds_goals op at ++ goals_left self.old) }
     {

@@ -1,7 +1,9 @@
 //! Texts that have a tree, and the line of each first fault; the text of the largest size.
 use super::*;
-use qm_lex::{MOST_BYTES, lex};
+use qm_lex::lex;
+use qm_limits::MOST_BYTES;
 use std::alloc::Global;
+use std::process::Abort;
 use std::test::Fail;
 
 /// A text, and what it has in place of a tree.
@@ -39,8 +41,8 @@ fn fault_of(alloc: Global, text: &[u8]) -> Result<Option<ParseError>, Fail> {
 }
 
 #[test]
-fn first_faults_of_the_frame(rt: HostRuntime) -> Result<(), Fail> {
-    let rows: [Row; 35] = [
+fn the_first_fault_of_a_frame_is_told(rt: HostRuntime) -> Result<(), Fail> {
+    let rows: [Row; 37] = [
         ("qmpi 1 ranks 1 qubits 1 buffer 1 all end", None),
         (
             "qmpi 01 ranks 016 qubits 16 buffer 8 all end own 15 b protocol 0 b01",
@@ -61,7 +63,9 @@ fn first_faults_of_the_frame(rt: HostRuntime) -> Result<(), Fail> {
         ("qmpi 1 ranks 0", unexpected(1)),
         ("qmpi 1 ranks 17", unexpected(1)),
         ("qmpi 1 ranks\n4294967297", too_large(2)),
+        ("qmpi 1 ranks 1 qubits 0", unexpected(1)),
         ("qmpi 1 ranks 1 qubits 17", unexpected(1)),
+        ("qmpi 1 ranks 1 qubits 1 buffer 0", unexpected(1)),
         ("qmpi 1 ranks 1 qubits 1 buffer 9", unexpected(1)),
         (
             "qmpi 1 ranks 1 qubits 1 buffer 18446744073709551617",
@@ -132,7 +136,7 @@ fn framed(alloc: Global, body: &str) -> Result<String, Fail> {
 }
 
 #[test]
-fn first_faults_of_bodies(rt: HostRuntime) -> Result<(), Fail> {
+fn the_first_fault_of_a_body_is_told(rt: HostRuntime) -> Result<(), Fail> {
     let rows: [Row; 43] = [
         ("alloc 0", None),
         ("alloc b01 free i x H", None),
@@ -305,15 +309,37 @@ fn thirty_two_are_open(rt: HostRuntime) -> Result<(), Fail> {
     Ok(())
 }
 
+/// What a node stands for, its token, its value, and the first node behind what belongs to it.
+type Parts = (What, u32, u32, u32);
+
+/// Tries that the tree of a text has just these nodes.
+fn try_nodes(rt: &impl Abort, alloc: Global, text: &[u8], nodes: &[Parts]) -> Result<(), Fail> {
+    assert!(rt; text.len() <= MOST_BYTES, "a short text");
+    let Ok(tokens) = lex(alloc, text) else {
+        return Err(Fail::from("no tokens"));
+    };
+    let Ok(tree) = parse(alloc, text, &tokens) else {
+        return Err(Fail::from("no tree"));
+    };
+    let mut j = 0u32;
+    for (what, token, value, stop) in nodes {
+        let node = Node {
+            what: *what,
+            token: *token,
+            value: *value,
+            stop: *stop,
+        };
+        assert_eq!(rt; tree.node(j), Some(node), "at {j}");
+        j = j.saturating_add(1);
+    }
+    assert_eq!(rt; tree.len(), j);
+    assert_eq!(rt; tree.node(j), None);
+    Ok(())
+}
+
 #[test]
 fn nodes_follow_the_text(rt: HostRuntime) -> Result<(), Fail> {
     let text = b"qmpi 1 ranks 1 qubits 1 buffer 1 all alloc 1-2*3-4 end";
-    let Ok(tokens) = lex(rt.alloc(), text) else {
-        return Err(Fail::from("no tokens"));
-    };
-    let Ok(tree) = parse(rt.alloc(), text, &tokens) else {
-        return Err(Fail::from("no tree"));
-    };
     let nodes = [
         (What::Num, 1, 1, 1),
         (What::Num, 3, 1, 2),
@@ -330,21 +356,45 @@ fn nodes_follow_the_text(rt: HostRuntime) -> Result<(), Fail> {
         (What::Minus, 15, 0, 13),
         (What::Arg, 10, 0, 14),
     ];
-    assert_eq!(rt; tree.len(), 14);
-    for (j, (what, token, value, stop)) in nodes.into_iter().enumerate() {
-        assert_eq!(rt;
-            tree.node(j as u32),
-            Some(Node {
-                what,
-                token,
-                value,
-                stop
-            }),
-            "at {j}"
-        );
-    }
-    assert_eq!(rt; tree.node(14), None);
-    Ok(())
+    try_nodes(&rt, rt.alloc(), text, &nodes)
+}
+
+#[test]
+fn blocks_loops_and_tapes_have_their_nodes(rt: HostRuntime) -> Result<(), Fail> {
+    let text = b"qmpi 1 ranks 2 qubits 1 buffer 1 \
+            rank 0 for i in rank..size { when 1 x i / 1 % 2 + 0 } end rank 1 end own 0 b1 protocol 1 b";
+    let nodes = [
+        (What::Num, 1, 1, 1),
+        (What::Num, 3, 2, 2),
+        (What::Num, 5, 1, 3),
+        (What::Num, 7, 1, 4),
+        (What::Block, 8, 0, 22),
+        (What::For, 10, 0, 22),
+        (What::Rank, 13, 0, 7),
+        (What::Arg, 13, 0, 8),
+        (What::Size, 15, 0, 9),
+        (What::Arg, 15, 0, 10),
+        (What::Instr, 17, 0, 22),
+        (What::Num, 18, 1, 12),
+        (What::Arg, 18, 0, 13),
+        (What::Instr, 19, 0, 22),
+        (What::Name, 20, 0, 15),
+        (What::Num, 22, 1, 16),
+        (What::Over, 21, 0, 17),
+        (What::Num, 24, 2, 18),
+        (What::Rest, 23, 0, 19),
+        (What::Num, 26, 0, 20),
+        (What::Plus, 25, 0, 21),
+        (What::Arg, 20, 0, 22),
+        (What::Block, 29, 0, 23),
+        (What::Own, 32, 0, 26),
+        (What::Num, 33, 0, 25),
+        (What::Bits, 34, 0, 26),
+        (What::Protocol, 35, 0, 29),
+        (What::Num, 36, 1, 28),
+        (What::Bits, 37, 0, 29),
+    ];
+    try_nodes(&rt, rt.alloc(), text, &nodes)
 }
 
 /// The largest text that repeats a piece behind a front.
@@ -359,7 +409,7 @@ fn filled(alloc: Global, front: &str, piece: &str) -> Result<String, Fail> {
 }
 
 #[test]
-fn largest_texts(rt: HostRuntime) -> Result<(), Fail> {
+fn the_largest_texts_have_a_tree_or_a_fault(rt: HostRuntime) -> Result<(), Fail> {
     for (front, piece, fault) in [
         ("", "\n", unended(1_048_577)),
         ("", "a", unexpected(1)),

@@ -78,15 +78,15 @@ impl Action {
 pub enum Operand {
     /// A slot, below the rank's qubits.
     Slot,
-    /// A classical bit, below 32.
+    /// A classical bit, below [`qm_limits::BITS`].
     Bit,
     /// 0 or 1.
     Truth,
-    /// The rank at the other end of a message, below 65,536.
+    /// The rank at the other end of a message, below [`qm_limits::PEERS`].
     Peer,
     /// The root of a collective, below the number of ranks.
     Root,
-    /// A tag, below 65,536.
+    /// A tag, below [`qm_limits::TAGS`].
     Tag,
 }
 

@@ -38,6 +38,7 @@ turns_head turns = codes "turns " ++ decimal turns ++ codes "\n"
 abbrev pub turn_line : ℕ → List ℕ
 turn_line r = decimal r ++ codes "\n"
 
+-- a line for each turn
 abbrev pub turn_lines : List ℕ → List ℕ
 turn_lines schedule = flat_map turn_line schedule
 

@@ -1,5 +1,6 @@
 -- A branch in the making: its bits, the wires that are one in it, and the slots over which it goes on
 use Rattle.std.specs.Prelude.{ℕ, ◌+◌, ◌-◌, ◌≤◌, List, [], ◌++◌, length, take, map, All, Contains}
+use Rattle.qm_limits.specs.declared.TheConstants.{MOST_CAPACITY}
 use Rattle.qm_denot.specs.declared.Wire.{Wire}
 use Rattle.qm_denot.specs.WireLists.{Distinct}
 use Rattle.qm_print.specs.declared.Live.{Live}
@@ -21,5 +22,5 @@ without_last ts = take (length ts - 1) ts
 pub record GoesOn (live : List Wire) (branch : BranchView) (slots : List Live) : Type 0 where
   pub live_all : All (Contains live) (branch.ones ++ map (λ s. s.wire) slots)
   pub distinct : Distinct (branch.ones ++ map (λ s. s.wire) slots)
-  pub bits_few : length branch.bits + length slots ≤ 22
-  pub ones_few : length branch.ones + length slots ≤ 22
+  pub bits_few : length branch.bits + length slots ≤ MOST_CAPACITY
+  pub ones_few : length branch.ones + length slots ≤ MOST_CAPACITY

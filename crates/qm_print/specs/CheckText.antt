@@ -4,6 +4,7 @@ use Rattle.qm_instr.specs.Programs.{Programs, instruction_total}
 use Rattle.qm_check.specs.Checks.{capacity_of}
 use Rattle.qm_check.specs.Totals.{totals_over}
 
+-- how the text answers a question
 abbrev pub yes_or_no : Bool → List ℕ
 yes_or_no b = if b then codes "yes" else codes "no"
 

@@ -40,6 +40,7 @@ letter_line (Keep w m) = projection_line (codes "keep ") w m
 letter_line (Take w m) = projection_line (codes "take ") w m
 letter_line (Rename a b) = two_line (codes "rename ") a b
 
+-- a line for each letter, in their order
 abbrev pub letter_lines : List Letter → List ℕ
 letter_lines ls = flat_map letter_line ls
 
@@ -48,6 +49,7 @@ abbrev pub circuit_head : ℕ → ℕ → List ℕ
 circuit_head ranks protocol =
     codes "circuit 1\nranks " ++ decimal ranks ++ codes "\nprotocol " ++ decimal protocol ++ codes "\n"
 
+-- the line that says how many letters follow
 abbrev pub letters_head : ℕ → List ℕ
 letters_head n = codes "letters " ++ decimal n ++ codes "\n"
 

@@ -1,6 +1,7 @@
 -- The line of a refusal, or of another end without a text
 use Rattle.std.specs.Prelude.{◌≢◌, ℕ, ◌/◌, ◌%◌, ◌^◌, ◌==◌, Bool, if◌then◌else◌, List, [], ◌++◌, codes, decimal}
 use Rattle.qm_print.specs.Below.{text_below}
+use Rattle.qm_limits.specs.declared.TheConstants.{MOST_RANKS}
 use Rattle.qm_instr.specs.declared.Kind.{Kind}
 use Rattle.qm_instr.specs.declared.Kind.TheVariants as kind
 use Rattle.qm_instr.specs.declared.Lane.{Lane}
@@ -79,14 +80,15 @@ stopped_line rank turns why =
 abbrev pub waiting_at : ℕ → ℕ → List ℕ
 waiting_at bits r = if bits / 2 ^ r % 2 == 1 then codes " " ++ decimal r else []
 
--- that of each of 16 ranks, rising
+-- that of each rank that there may be, rising
 abbrev pub waiting_ranks : ℕ → List ℕ
-waiting_ranks bits = text_below (waiting_at bits) 16
+waiting_ranks bits = text_below (waiting_at bits) MOST_RANKS
 
--- the line of the ranks that wait, of 16
+-- the line of the ranks that wait
 abbrev pub waits_line : ℕ → List ℕ
 waits_line bits = codes "waits" ++ waiting_ranks bits ++ codes "\n"
 
+-- the line of each refusal, stop and other end without a text
 abbrev pub fault_text : FaultLine → List ℕ
 fault_text line.Usage = codes "usage\n"
 fault_text line.ReadFault = codes "read fault\n"

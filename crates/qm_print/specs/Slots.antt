@@ -1,12 +1,14 @@
 -- The full slots of ranks, and how they are written
 use Rattle.std.specs.Prelude.{ℕ, zero, suc, ◌∷◌, [], ◌++◌, List, Option, Some, None, length, codes, decimal, All, Contains, map, ◌≤◌}
 use Rattle.std.specs.List.{flat_map}
+use Rattle.qm_limits.specs.declared.TheConstants.{MOST_CAPACITY}
 use Rattle.qm_denot.specs.declared.Wire.{Wire}
 use Rattle.qm_denot.specs.WireLists.{Distinct}
 use Rattle.qm_instr.specs.Programs.{Programs, rank_of}
 use Rattle.qm_print.specs.declared.Live.{Live}
 
 -- ---- which slots are full
+-- a slot with its wire, where it is full
 abbrev pub slot_if : ℕ → ℕ → Option Wire → List Live
 slot_if r q None = []
 slot_if r q (Some w) = record { rank = r; slot = q; wire = w } ∷ []
@@ -42,6 +44,7 @@ wire_text w = decimal w.rank ++ codes "." ++ decimal w.made
 abbrev pub slot_line : Live → List ℕ
 slot_line s = codes "slot " ++ decimal s.rank ++ codes " " ++ decimal s.slot ++ codes " " ++ wire_text s.wire ++ codes "\n"
 
+-- a line for each full slot
 abbrev pub slot_lines : List Live → List ℕ
 slot_lines ss = flat_map slot_line ss
 
@@ -50,4 +53,4 @@ slot_lines ss = flat_map slot_line ss
 pub record AreLive (live : List Wire) (slots : List Live) : Type 0 where
   pub live_all : All (Contains live) (map (λ s. s.wire) slots)
   pub distinct : Distinct (map (λ s. s.wire) slots)
-  pub few : length slots ≤ 22
+  pub few : length slots ≤ MOST_CAPACITY

@@ -14,6 +14,7 @@ use Rattle.qm_print.specs.declared.Live.{Live}
 use Rattle.qm_print.specs.Slots.{full_slots, slots_text}
 use Rattle.qm_print.specs.Bits.{bits_lines}
 
+-- whether a branch with this number has no line: it is 0
 abbrev pub is_zero_number : Number → Bool
 is_zero_number z = int_eq z.a (pos 0) && (int_eq z.b (pos 0) && (int_eq z.c (pos 0) && int_eq z.d (pos 0)))
 

@@ -13,6 +13,7 @@ use Rattle.qm_print.specs.declared.blocks.Place.{Place}
 abbrev pub first_place : Place
 first_place = record { at = 0; stage = 0 }
 
+-- where a rank stands; past the last rank, at the start
 abbrev pub place_at : List Place → ℕ → Place
 place_at places r = slice_index_or places r first_place
 

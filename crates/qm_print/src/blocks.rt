@@ -7,14 +7,12 @@ ghost use Rattle.qm_print.specs.Blocks.{event_line, event_lines, event_name, tra
 ghost use Rattle.qm_print.specs.Gathering.{Gathers};
 ghost use Rattle.qm_print.specs.Walks.{StandsIn, event_at, place_after};
 
+use crate::RANKS;
 use crate::page::{Page, Piece};
 use qm_check::Ready;
 use qm_instr::{Input, event_count};
 use qm_io::{Failed, Sink};
 use qm_proto::{Event, next_event};
-
-/// The most ranks.
-const RANKS: usize = 16;
 
 /// Where a rank stands: the number of its next instruction, and how many events of that it has had.
 #[derive(Clone, Copy)]

@@ -3,10 +3,11 @@ ghost use Rattle.std.specs.Prelude.{◌≡◌, ◌<◌, ◌≤◌, ◌∷◌, []
 ghost use Rattle.qm_print.specs.Branches.{without_last};
 
 use qm_denot::Wire;
+use qm_limits::MOST_CAPACITY;
 use std::marker::Model;
 
 /// The most slots that a branch goes over.
-pub(crate) const MOST: usize = 22;
+pub(crate) const MOST: usize = MOST_CAPACITY as usize;
 
 /// The bits of a branch over the first slots, and the wires that are one in it.
 #[derive(Drop)]
@@ -19,13 +20,14 @@ pub(crate) struct Branch {
 
 impl Model for Branch {
     ghost use Rattle.std.specs.Prelude.{ℕ, ◌≤◌, List, take};
+    ghost use Rattle.qm_limits.specs.declared.TheConstants.{MOST_CAPACITY};
     ghost use Rattle.qm_print.specs.Branches.{BranchView};
 
     ghost Value = { BranchView };
 
     ghost view = { λ b. record { bits = take b.length b.bits; ones = take b.count b.ones } };
 
-    ghost invariant = { λ b. (b.length ≤ 22) × (b.count ≤ 22) };
+    ghost invariant = { λ b. (b.length ≤ MOST_CAPACITY) × (b.count ≤ MOST_CAPACITY) };
 }
 
 impl Branch {
@@ -49,7 +51,7 @@ impl Branch {
 
     /// Goes on to a slot that is zero.
     pub(crate) fn enter_zero(&mut self)
-        requires { length self.old.bits < 22 }
+        requires { length self.old.bits < MOST_CAPACITY }
         ensures { self.new ≡ record self.old { bits = self.old.bits ++ 48 ∷ [] } }
     {
         self.bits[self.length] = b'0';
@@ -58,8 +60,8 @@ impl Branch {
 
     /// Goes on to a slot that is one.
     pub(crate) fn enter_one(&mut self, wire: Wire)
-        requires bits { length self.old.bits < 22 }
-        requires ones { length self.old.ones < 22 }
+        requires bits { length self.old.bits < MOST_CAPACITY }
+        requires ones { length self.old.ones < MOST_CAPACITY }
         ensures { self.new ≡ record {
           bits = self.old.bits ++ 49 ∷ [];
           ones = self.old.ones ++ wire ∷ [];

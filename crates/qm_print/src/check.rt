@@ -10,7 +10,7 @@ use qm_check::Ready;
 use qm_instr::Input;
 use qm_io::{Failed, Sink};
 
-/// How many instructions all ranks have, at most 100,000.
+/// How many instructions all ranks have, at most [`qm_limits::MOST_INSTRUCTIONS`].
 fn instruction_total(input: &Input) -> u32
     ensures { result ≡ instruction_total input.now }
 {
@@ -21,6 +21,7 @@ fn instruction_total(input: &Input) -> u32
     total
 }
 
+/// How the text answers a question.
 fn yes_or_no(b: bool) -> &'static [u8]
     ensures { result.now ≡ yes_or_no b }
 {

@@ -69,6 +69,7 @@ fn add_two<O: Sink>(
     )
 }
 
+/// An outcome, as it is written.
 fn outcome_text(m: bool) -> &'static [u8]
     ensures { result.now ≡ outcome_text m }
 {

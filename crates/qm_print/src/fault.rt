@@ -10,10 +10,11 @@ use crate::page::{Page, Piece};
 use qm_check::Fault;
 use qm_instr::{Kind, Lane};
 use qm_io::{Failed, Sink};
+use qm_limits::MOST_RANKS;
 use qm_proto::Cause;
 
 /// How many bits a number of ranks has.
-const RANKS: u32 = 16;
+const RANKS: u32 = MOST_RANKS as u32;
 
 /// The printed name of what a lane carries, which isn't answers.
 fn kind_name(kind: Kind) -> &'static [u8]
@@ -243,7 +244,7 @@ fn add_stopped<O: Sink>(
 
 /// Adds a rank, if its bit is 1.
 fn add_rank_if<O: Sink>(page: &mut Page, sink: &mut O, ranks: u16, rank: u32) -> Result<(), Failed>
-    requires { rank < 16 }
+    requires { rank < MOST_RANKS }
     ensures { Gathers (O.seen sink.old) (O.seen sink.new) page.old page.new
         (waiting_at ranks rank) result }
 {

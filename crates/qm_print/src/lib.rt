@@ -25,20 +25,24 @@ mod tests;
 
 use qm_check::Fault;
 use qm_denot::Wire;
+use qm_limits::MOST_RANKS;
 use qm_proto::Cause;
 pub use state::{count_lines, put_state};
+
+/// How many ranks there may be, as the length of a list.
+pub const RANKS: usize = MOST_RANKS as usize;
 
 /// What a state text says before its full slots.
 #[derive(Clone, Copy, PartialEq, Eq, Debug)]
 pub struct Head {
-    /// How many ranks there are, at most 16.
+    /// How many ranks there are, at most [`MOST_RANKS`].
     pub ranks: u16,
     /// How many outcomes are taken from all protocol tapes.
     pub protocol: u64,
     /// The exponent of root2 under the amplitudes.
     pub scale: u64,
     /// For each rank the sum of 2^i over its classical bits that are 1.
-    pub bits: [u32; 16],
+    pub bits: [u32; RANKS],
 }
 
 /// A full qubit slot of a rank, and the wire in it.
@@ -71,8 +75,11 @@ pub struct JobNumbers {
 /// `line` counts the lines of a program text from 1.
 #[derive(Clone, Copy, PartialEq, Eq, Debug)]
 pub enum FaultLine {
+    /// The words are no command.
     Usage,
+    /// A read failed.
     ReadFault,
+    /// The text has more than [`qm_limits::MOST_BYTES`] bytes.
     TooLong,
     BadByte { line: u32 },
     Unexpected { line: u32 },
@@ -88,7 +95,7 @@ pub enum FaultLine {
     Stopped { rank: u32, turns: u64, cause: Cause },
     /// Ranks have instructions left; the number has the bit of each.
     Waits { ranks: u16 },
-    /// A circuit's width is above what a store may hold.
+    /// A circuit's width is above [`qm_limits::MOST_CAPACITY_1`].
     Wide { width: u32 },
     /// The letter of this number, from 0, leaves the range.
     LetterOverflow { at: u32 },

@@ -32,12 +32,13 @@ pub(crate) struct Page {
 
 impl Model for Page {
     ghost use Rattle.std.specs.Prelude.{ℕ, ◌≤◌, List, take};
+    ghost use Rattle.qm_print.specs.declared.page.TheConstants.{SIZE};
 
     ghost Value = { List ℕ };
 
     ghost view = { λ p. take p.filled p.bytes };
 
-    ghost invariant = { λ p. p.filled ≤ 8192 };
+    ghost invariant = { λ p. p.filled ≤ SIZE };
 }
 
 impl Page {
@@ -63,7 +64,7 @@ impl Page {
 
     /// Adds bytes that there is room for.
     fn push(&mut self, bytes: &[u8])
-        requires { length self.old + length bytes.now ≤ 8192 }
+        requires { length self.old + length bytes.now ≤ SIZE }
         ensures { self.new ≡ self.old ++ bytes.now }
     {
         let end = self.filled + bytes.len();

@@ -15,6 +15,7 @@ use crate::page::{Page, Piece};
 use crate::{Head, Live};
 use qm_denot::Amps;
 use qm_io::{Failed, Sink};
+use qm_limits::MOST_RANKS;
 use qm_zomega::Zw;
 
 /// The bit string of a branch, as it is written.
@@ -168,7 +169,7 @@ fn add_head<O: Sink>(page: &mut Page, sink: &mut O, head: &Head) -> Result<(), F
 
 /// Adds the lines of the ranks' classical bits.
 fn add_bits<O: Sink>(page: &mut Page, sink: &mut O, head: &Head) -> Result<(), Failed>
-    requires { head.now.ranks ≤ 16 }
+    requires { head.now.ranks ≤ MOST_RANKS }
     ensures { Gathers (O.seen sink.old) (O.seen sink.new) page.old page.new
         (bits_lines head.now.ranks (slice_index head.now.bits)) result }
 {
@@ -186,7 +187,7 @@ fn add_state<A: Amps, O: Sink>(
     live: &[Live],
     amps: &A,
 ) -> Result<(), Failed>
-    requires ranks { head.now.ranks ≤ 16 }
+    requires ranks { head.now.ranks ≤ MOST_RANKS }
     requires live { AreLive (A.store amps.now).live live.now }
     ensures { Gathers (O.seen sink.old) (O.seen sink.new) page.old page.new
         (state_lines head.now.ranks head.now.protocol head.now.scale (slice_index head.now.bits)
@@ -203,14 +204,14 @@ fn add_state<A: Amps, O: Sink>(
 
 /// Writes the state text of these full slots: a line for each bit string over them, in rising order, whose numerator isn't zero.
 ///
-/// There are at most 16 ranks and 22 slots; the slots hold different live wires.
+/// There are at most [`MOST_RANKS`] ranks and [`qm_limits::MOST_CAPACITY`] slots; the slots hold different live wires.
 pub fn put_state<A: Amps, O: Sink>(
     sink: &mut O,
     head: &Head,
     live: &[Live],
     amps: &A,
 ) -> Result<(), Failed>
-    requires ranks { head.now.ranks ≤ 16 }
+    requires ranks { head.now.ranks ≤ MOST_RANKS }
     requires live { AreLive (A.store amps.now).live live.now }
     ensures { Puts (O.seen sink.old) (O.seen sink.new)
         (state_lines head.now.ranks head.now.protocol head.now.scale (slice_index head.now.bits)
@@ -221,7 +222,8 @@ pub fn put_state<A: Amps, O: Sink>(
     page.write_out(sink)
 }
 
-/// How many amplitude lines the state text of these full slots has. The slots, at most 22, hold different live wires.
+/// How many amplitude lines the state text of these full slots has. The slots, at most [`qm_limits::MOST_CAPACITY`], hold different
+/// live wires.
 pub fn count_lines<A: Amps>(live: &[Live], amps: &A) -> u64
     requires { AreLive (A.store amps.now).live live.now }
     ensures { result ≡ line_count (A.store amps.now).value live.now }

@@ -207,8 +207,9 @@ fn the_one_circuit_is_written(rt: HostRuntime) -> Result<(), Fail> {
     let circuit = mono(rt.alloc(), &ready)?;
     let mut sink = sink(rt.alloc())?;
     put_circuit(&mut sink, &circuit, &ready)?;
-    let expected =
-        "circuit 1\nranks 2\nprotocol 4\nbits 0 00000000\nbits 1 00000000\nletters 7\nhad 0.0\ncx 0.0 0.1\ncx 0.0 0.2\ncx 0.0 0.1\ntake 0.1 0\ncx 0.0 0.2\ntake 0.2 0\nslot 0 0 0.0\nend\n";
+    let expected = "circuit 1\nranks 2\nprotocol 4\nbits 0 00000000\nbits 1 00000000\n\
+            letters 7\nhad 0.0\ncx 0.0 0.1\ncx 0.0 0.2\ncx 0.0 0.1\ntake 0.1 0\ncx 0.0 0.2\ntake 0.2 0\n\
+            slot 0 0 0.0\nend\n";
     assert_eq!(rt; sink.taken(), expected.as_bytes());
     Ok(())
 }
@@ -267,6 +268,15 @@ const LANE: Lane = Lane {
     tag: 65535,
 };
 
+/// A lane of this kind, with one receive less than it has sends.
+fn unmatched(kind: Kind) -> FaultLine {
+    unready(Fault::UnmatchedLane {
+        lane: Lane { kind, ..LANE },
+        sends: 2,
+        receives: 1,
+    })
+}
+
 /// Whether a lane that the line names carries no answers.
 fn names_no_answers(line: &FaultLine) -> bool
     ensures { IsTrue result → NamesNoAnswers line.now }
@@ -285,7 +295,7 @@ fn unready(fault: Fault) -> FaultLine {
 }
 
 /// Each line once.
-fn lines() -> [(FaultLine, &'static str); 26] {
+fn lines() -> [(FaultLine, &'static str); 29] {
     let (line, rank, at) = (12, 3, 400);
     let cause = Cause::NotEqual;
     [
@@ -337,12 +347,20 @@ fn lines() -> [(FaultLine, &'static str); 26] {
             "refused slot-full rank 3 instruction 400\n",
         ),
         (
-            unready(Fault::UnmatchedLane {
-                lane: LANE,
-                sends: 2,
-                receives: 1,
-            }),
+            unmatched(Kind::Move),
             "refused unmatched-lane from 3 to 0 move tag 65535 sends 2 receives 1\n",
+        ),
+        (
+            unmatched(Kind::Bit),
+            "refused unmatched-lane from 3 to 0 bit tag 65535 sends 2 receives 1\n",
+        ),
+        (
+            unmatched(Kind::Undo),
+            "refused unmatched-lane from 3 to 0 undo tag 65535 sends 2 receives 1\n",
+        ),
+        (
+            unmatched(Kind::Reach),
+            "refused unmatched-lane from 3 to 0 reach tag 65535 sends 2 receives 1\n",
         ),
         (
             unready(Fault::TapeLength {

@@ -3,7 +3,7 @@ use Rattle.std.proofs.Common.{◌≡◌, ℕ, List, [], ◌∷◌, ◌++◌, ref
 use Rattle.qm_proto.specs.Model.State.{Tables}
 use Rattle.qm_proto.specs.declared.Act.{Act}
 use Rattle.qm_proto.specs.Model.Acts.{done, letters_of, all_done, all_letters}
-use Rattle.qm_proto.specs.Model.May.{Limits, limits_after, limits_after_all, AllMay}
+use Rattle.qm_proto.specs.May.{Limits, limits_after, limits_after_all, AllMay}
 
 pub all_done-append : (r : ℕ) (xs ys : List Act) (t : Tables) → all_done r (xs ++ ys) t ≡ all_done r ys (all_done r xs t)
 all_done-append r [] ys t = refl

@@ -13,7 +13,7 @@ use Rattle.qm_proto.specs.Model.Acts.{counted, more_at, less_at, done, all_done}
 use Rattle.qm_proto.specs.Model.Rows.{half}
 use Rattle.qm_proto.specs.Model.Schedules.{tables_at_start}
 use Rattle.qm_proto.specs.Model.Places.{Place, InSlot, NearOf, FarOf, IsAt, IsPlaced, IsOnlyAt}
-use Rattle.qm_proto.specs.Model.May.{MaySettle}
+use Rattle.qm_proto.specs.May.{MaySettle}
 use Rattle.qm_proto.specs.Model.Tidy.{IsTidy, IsPostable, IsInHand, KeepsTidy}
 use Rattle.qm_proto.proofs.Changes.{by_rank, with_at-here}
 use Rattle.qm_proto.proofs.TidyPlaces.{lacks_gone, has_new}

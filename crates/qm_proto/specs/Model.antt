@@ -5,7 +5,6 @@ pub mod Rows
 pub mod Runs
 pub mod Schedules
 pub mod Places
-pub mod May
 pub mod Tidy
 pub mod Ideal
 pub mod Orders

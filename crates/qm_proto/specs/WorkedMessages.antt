@@ -23,6 +23,7 @@ f = record { rank = 0; made = 1; near = false }
 abbrev pub t : Wire
 t = record { rank = 1; made = 0; near = false }
 
+-- the numbers 0, 1 and omega
 abbrev O : Number
 O = zero_number
 

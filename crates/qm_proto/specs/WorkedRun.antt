@@ -23,6 +23,7 @@ use Rattle.qm_proto.specs.Model.Schedules.{tables_at_start, replay, AllEnded, Is
 abbrev pub copy_schedule : List ℕ
 copy_schedule = 0 ∷ 0 ∷ 0 ∷ 0 ∷ 0 ∷ 1 ∷ 1 ∷ []
 
+-- the numbers 0 and 1
 abbrev O : Number
 O = zero_number
 
@@ -54,6 +55,7 @@ pub record IsOne (p : Programs) (ranks : List ℕ) (letters : Circuit) : Type 0 
   pub done : AllDone p (ideal_replay p ranks).tables
   pub circuit : (ideal_replay p ranks).circuit ≡ letters
 
+-- the schedules of the uncopy and of the move, in the same order of turns
 abbrev pub uncopy_schedule : List ℕ
 uncopy_schedule = 0 ∷ 0 ∷ 0 ∷ 0 ∷ 1 ∷ 1 ∷ 1 ∷ 1 ∷ 0 ∷ 0 ∷ []
 
@@ -64,6 +66,7 @@ move_schedule = 0 ∷ 0 ∷ 0 ∷ 0 ∷ 0 ∷ 0 ∷ 1 ∷ 1 ∷ 1 ∷ []
 abbrev pub reach_schedule : List ℕ
 reach_schedule = 0 ∷ 1 ∷ 0 ∷ 0 ∷ 0 ∷ 1 ∷ 1 ∷ 1 ∷ 1 ∷ 1 ∷ 0 ∷ 0 ∷ 0 ∷ 0 ∷ 0 ∷ 1 ∷ 1 ∷ []
 
+-- those of the bits, and of the crossed copies where both buffers have room for two halves
 abbrev pub bit_schedule : List ℕ
 bit_schedule = 0 ∷ 0 ∷ 0 ∷ 0 ∷ 0 ∷ 1 ∷ 1 ∷ 1 ∷ 1 ∷ 1 ∷ []
 
@@ -87,6 +90,7 @@ f_next = record f { made = 2 }
 abbrev pub bit_letters : Bool → List Letter
 bit_letters m = (Keep q m ∷ letter_if m (Flip q)) ++ Take q false ∷ letter_if m (Flip t)
 
+-- what the runs leave: their letters, and the bits
 pub record WorkedRun : Type 0 where
   -- with the outcome one, and with the outcome zero, where the receiver corrects nothing
   pub copy_by_one : WorkedCopy true (Had q ∷ Pair e f ∷ Cx q e ∷ Take e true ∷ Flip f ∷ [])

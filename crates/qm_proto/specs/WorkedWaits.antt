@@ -33,6 +33,7 @@ halves_after p schedule r = numbers_from p (λ t. halves t r) (tables_at_start p
 abbrev pub with_circuit : Programs → List ℕ → Circuit → State
 with_circuit p schedule g = record { tables = (replay p schedule).tables; circuit = g }
 
+-- who holds how many halves, who may go on after these schedules and who has to wait, and which states are stuck
 pub record WorkedWaits : Type 0 where
   -- a near half is held from its pair to its measurement; a far half until it goes into a slot, or is measured at the end of a reach
   pub copy_near : halves_after (copy_programs true) copy_schedule 0 ≡ 0 ∷ 0 ∷ 1 ∷ 1 ∷ 0 ∷ 0 ∷ 0 ∷ []

@@ -63,9 +63,10 @@ pub enum Cause {
 pub enum Rule {
     /// Nothing.
     Always,
-    /// The lane's receiver has room for one more half, or wants it.
+    /// The lane's receiver has room for two more halves; or for one, and stands at the first event of a receive of the lane, which is
+    /// empty.
     PairRoom { lane: Lane },
-    /// The lane's receiver stands at a receive of it, and the lane is empty.
+    /// The lane's receiver stands at the first event of a receive of it, and the lane is empty.
     Engaged { lane: Lane },
     /// The lane's front parcel has its bits.
     Filled { lane: Lane },

@@ -18,6 +18,7 @@ pub record GoesOnLegally (p : Programs) (before more : List ℕ) (w : Words) : T
   pub legal : IsLegal p (before ++ more)
   pub ended : IsEndAround p (replay p (before ++ more)) (w (length more) % length p.ranks)
 
+-- after a legal schedule each run by words goes on legally, to its end
 abbrev pub LegalOrder : Type 0
 LegalOrder =
     (p : Programs) (before more : List ℕ) (w : Words)

@@ -1,6 +1,7 @@
 -- What playing a machine in an order of turns makes of it
 use Rattle.std.specs.Prelude.{◌≡◌, ◌≢◌, ℕ, ◌%◌, ◌≤◌, Bool, true, false, List, [], ◌∷◌, ◌++◌, Some, None, length}
 use Rattle.qm_denot.specs.Stores.{Store}
+use Rattle.qm_limits.specs.declared.TheConstants.{MOST_EVENTS}
 use Rattle.qm_proto.specs.Model.Runs.{IsAllowed}
 use Rattle.qm_proto.specs.Model.Orders.{Words, IsFirstAround, StopsAround, IsEndAround, IsOrderFrom}
 use Rattle.qm_machine.specs.declared.Halt.{Halt}
@@ -36,7 +37,7 @@ pub record Went {A : Type 0} (old : MachineView A) (start : ℕ) (new : MachineV
   pub programs : new.programs ≡ old.programs
   pub schedule : new.schedule ≡ old.schedule ++ rank ∷ []
   pub still : new.halted ≡ None
-  pub short : length new.schedule ≤ 500000
+  pub short : length new.schedule ≤ MOST_EVENTS
 
 -- the run is at its end
 pub record Stood {A : Type 0} (old : MachineView A) (start : ℕ) (new : MachineView A) : Type 0 where

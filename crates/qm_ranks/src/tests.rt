@@ -1,8 +1,9 @@
-//! Orders of turns that were worked out elsewhere, from the generator's published algorithm.
+//! Orders of turns that were worked out by hand, from the generator's published algorithm.
 use crate::{play_order, play_seed};
 use qm_check::check;
 use qm_denot::{Amps, PlainAmps};
 use qm_instr::{Gate, Input, Instr, OneGate};
+use qm_limits::MOST_CAPACITY;
 use qm_machine::{Cause, Halt, Machine, State};
 use std::alloc::{AllocError, Global};
 use std::process::Abort;
@@ -16,7 +17,7 @@ const ALLOC: Instr = Instr::Alloc { q: 0 };
 fn machine_of(rt: &impl Abort, alloc: Global, input: Input) -> Result<Machine<PlainAmps>, Fail> {
     let ready = check(alloc, input)?;
     let capacity = ready.capacity();
-    assert!(rt; capacity <= 22, "a narrow store");
+    assert!(rt; capacity <= MOST_CAPACITY, "a narrow store");
     let amps = PlainAmps::start(alloc, capacity)?;
     Ok(Machine::start(alloc, ready, amps)?)
 }

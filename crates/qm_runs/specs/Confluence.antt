@@ -21,6 +21,7 @@ pub record EitherOrder (p : Programs) (rs : List ℕ) (a b : ℕ) : Type 0 where
   pub b_first : IsIdealRun p (rs ++ b ∷ a ∷ [])
   pub alike : Alike (ideal_replay p (rs ++ a ∷ b ∷ [])) (ideal_replay p (rs ++ b ∷ a ∷ []))
 
+-- any two ranks that are both enabled after an ideal run may step in either order
 abbrev pub StepsCommute : Programs → Type 0
 StepsCommute p =
     (rs : List ℕ) (a b : ℕ) → IsIdealRun p rs → a < length p.ranks → b < length p.ranks → a ≢ b
@@ -44,6 +45,7 @@ pub record IsCompletion (p : Programs) (rs qs rest : List ℕ) : Type 0 where
   pub alike : Alike (ideal_replay p rs) (ideal_replay p (qs ++ rest))
   pub long : length rs ≡ length (qs ++ rest)
 
+-- where some ideal run leaves no instruction, each ideal run can be completed to an end that is like its end
 abbrev pub EachRunCompletes : Programs → Type 0
 EachRunCompletes p =
     (rs qs : List ℕ) → IsIdealRun p rs → AllDone p (ideal_replay p rs).tables → IsIdealRun p qs
@@ -56,6 +58,7 @@ pub record IsConfluent (p : Programs) : Type 0 where
   pub one_run : OneRunEndsAlike p
   pub completes : EachRunCompletes p
 
+-- for programs that have no fault the order of an ideal run's steps doesn't matter
 abbrev pub ConfluenceLaw : Type 0
 ConfluenceLaw = (p : Programs) → IsReady p → IsInRange p → IsConfluent p
 
@@ -64,5 +67,6 @@ pub record IsTame (s : IdealState) : Type 0 where
   pub proper : AllProper s.circuit
   pub weight : weight s.circuit ≤ 2 ^ halvings s.circuit
 
+-- each ideal run of programs that have no fault leaves such a circuit
 abbrev pub IdealWeightLaw : Type 0
 IdealWeightLaw = (p : Programs) → IsReady p → IsInRange p → (rs : List ℕ) → IsIdealRun p rs → IsTame (ideal_replay p rs)

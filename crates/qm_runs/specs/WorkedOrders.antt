@@ -19,6 +19,7 @@ crossed = crossed_programs 1 1
 abbrev pub undone : Programs
 undone = uncopy_programs true false
 
+-- the crossed copies may be made in either order, and the copy is taken back in one order only
 pub record WorkedOrders : Type 0 where
   -- the programs have no fault, so the law speaks of them
   pub ready : IsReady crossed

@@ -15,6 +15,7 @@ use Rattle.qm_runs.specs.Following.Simulation.{Progress, progress_next}
 abbrev pub Shown : Type 0
 Shown = Tagged Message × Tagged Message × ℕ
 
+-- what is shown after each event of a schedule, from this progress on
 abbrev pub shown_from : Programs → Progress → List ℕ → List Shown
 shown_from p x [] = []
 shown_from p x (r ∷ rs) = let y = progress_next p x r in (y.begun, y.pending, y.settled) ∷ shown_from p y rs
@@ -36,12 +37,14 @@ given (l ∷ ls) = (BackTo 0, l) ∷ given ls
 abbrev settled : ℕ → Shown
 settled n = ([], [], n)
 
+-- letters begun, and letters due, of the first pair's message, with so many outcomes settled
 abbrev begun : List Letter → ℕ → Shown
 begun ls n = (paired ls, [], n)
 
 abbrev due : List Letter → ℕ → Shown
 due ls n = ([], paired ls, n)
 
+-- what a copy, a move, an undo and a reach show after each of their events
 pub record WorkedProgress : Type 0 where
   -- a copy: made after two events of its rank alone, posted, delivered, and corrected where the outcome is one
   pub copy_by_one : shown_after (copy_programs true) (0 ∷ 0 ∷ 0 ∷ 0 ∷ 0 ∷ 1 ∷ 1 ∷ [])

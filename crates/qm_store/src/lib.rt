@@ -6,6 +6,7 @@
 
 ghost use Rattle.std.specs.Prelude.{◌≡◌, ◌≤◌, ◌^◌, length};
 ghost use Rattle.std.specs.Vec.{vec_capacity};
+ghost use Rattle.qm_limits.specs.declared.TheConstants.{MOST_CAPACITY};
 ghost use Rattle.qm_denot.specs.Sound.{Keeps, Keeps-prop};
 
 mod lists;
@@ -14,6 +15,7 @@ mod tests;
 
 use lists::{double, pair_list, power, take_list};
 use qm_denot::{Amps, Letter, Overflow, Wire, any_unequal, any_with, index_at, place_of};
+use qm_limits::MOST_CAPACITY;
 use qm_scale::reduce;
 use qm_zomega::Zw;
 use std::alloc::{AllocError, Global};
@@ -28,12 +30,12 @@ pub struct ScaledAmps {
     live: Vec<Wire>,
     numerators: Vec<Zw>,
     exponent: u64,
-    ghost small: { capacity ≤ 22 },
+    ghost small: { capacity ≤ MOST_CAPACITY },
     ghost few: { length live.items ≤ capacity },
     ghost live_room: { capacity ≤ vec_capacity live },
     ghost size: { length numerators.items ≡ 2 ^ length live.items },
     ghost room: { 2 ^ capacity ≤ vec_capacity numerators },
-    ghost kept: { Keeps live.items numerators.items exponent } by { Keeps-prop live.items numerators.items exponent },
+    ghost kept: { Keeps live.items numerators.items exponent } by { Keeps-prop _ _ _ },
 }
 
 impl ScaledAmps {
@@ -45,7 +47,7 @@ impl ScaledAmps {
     ///
     /// All memory is taken here, and `AllocError` comes only for want of it.
     pub fn start(alloc: Global, capacity: u32) -> Result<ScaledAmps, AllocError>
-        requires { capacity ≤ 22 }
+        requires { capacity ≤ MOST_CAPACITY }
         ensures stands { IfOk result (λ s. StandsFor (⟦<ScaledAmps as Amps>⟧.store s) []) }
         ensures live { IfOk result (λ s. (⟦<ScaledAmps as Amps>⟧.store s).live ≡ []) }
         ensures capacity { IfOk result (λ s. (⟦<ScaledAmps as Amps>⟧.store s).capacity ≡ capacity) }
@@ -61,6 +63,7 @@ impl ScaledAmps {
         })
     }
 
+    /// Multiplies the numerators where `w` is one by omega^`k`.
     fn phase(&mut self, k: u8, w: Wire)
         requires may { MayApply (Letter.Phase k w) (⟦<ScaledAmps as Amps>⟧.store self.old) }
         ensures { Does (Letter.Phase k w) (⟦<ScaledAmps as Amps>⟧.store self.old)
@@ -70,6 +73,7 @@ impl ScaledAmps {
         qm_kernels::phase(&mut self.numerators, place, k);
     }
 
+    /// Exchanges the branches of `w`.
     fn flip(&mut self, w: Wire)
         requires may { MayApply (Letter.Flip w) (⟦<ScaledAmps as Amps>⟧.store self.old) }
         ensures { Does (Letter.Flip w) (⟦<ScaledAmps as Amps>⟧.store self.old)
@@ -79,6 +83,7 @@ impl ScaledAmps {
         qm_kernels::flip(&mut self.numerators, place);
     }
 
+    /// Exchanges the branches of `t` where `c` is one.
     fn cx(&mut self, c: Wire, t: Wire)
         requires may { MayApply (Letter.Cx c t) (⟦<ScaledAmps as Amps>⟧.store self.old) }
         ensures { Does (Letter.Cx c t) (⟦<ScaledAmps as Amps>⟧.store self.old)
@@ -89,6 +94,7 @@ impl ScaledAmps {
         qm_kernels::cross(&mut self.numerators, control, target);
     }
 
+    /// Changes the sign where both are one.
     fn cz(&mut self, c: Wire, t: Wire)
         requires may { MayApply (Letter.Cz c t) (⟦<ScaledAmps as Amps>⟧.store self.old) }
         ensures { Does (Letter.Cz c t) (⟦<ScaledAmps as Amps>⟧.store self.old)
@@ -99,6 +105,7 @@ impl ScaledAmps {
         qm_kernels::sign(&mut self.numerators, one, other);
     }
 
+    /// Keeps the branches where `w` is `m`; the others are zero.
     fn keep(&mut self, w: Wire, m: bool)
         requires may { MayApply (Letter.Keep w m) (⟦<ScaledAmps as Amps>⟧.store self.old) }
         ensures { Does (Letter.Keep w m) (⟦<ScaledAmps as Amps>⟧.store self.old)
@@ -110,6 +117,7 @@ impl ScaledAmps {
         reduce(list, &mut self.exponent);
     }
 
+    /// Puts the sum and the difference of each two branches that differ in `w` alone in their stead, unless one leaves the range.
     fn had(&mut self, w: Wire) -> Result<(), Overflow>
         requires may { MayApply (Letter.Had w) (⟦<ScaledAmps as Amps>⟧.store self.old) }
         ensures does { OnOk result (Does (Letter.Had w) (⟦<ScaledAmps as Amps>⟧.store self.old)
@@ -130,6 +138,7 @@ impl ScaledAmps {
         Ok(())
     }
 
+    /// Makes `a` and `b` live as an EPR pair.
     fn pair(&mut self, a: Wire, b: Wire)
         requires may { MayApply (Letter.Pair a b) (⟦<ScaledAmps as Amps>⟧.store self.old) }
         ensures { Does (Letter.Pair a b) (⟦<ScaledAmps as Amps>⟧.store self.old)
@@ -143,6 +152,7 @@ impl ScaledAmps {
         reduce(&mut self.numerators, &mut self.exponent);
     }
 
+    /// Keeps the branches where `w` is `m`, after which it isn't live any more.
     fn take(&mut self, w: Wire, m: bool)
         requires may { MayApply (Letter.Take w m) (⟦<ScaledAmps as Amps>⟧.store self.old) }
         ensures { Does (Letter.Take w m) (⟦<ScaledAmps as Amps>⟧.store self.old)
@@ -154,6 +164,7 @@ impl ScaledAmps {
         reduce(&mut self.numerators, &mut self.exponent);
     }
 
+    /// Makes `b` live in the place of `a`.
     fn rename(&mut self, a: Wire, b: Wire)
         requires may { MayApply (Letter.Rename a b) (⟦<ScaledAmps as Amps>⟧.store self.old) }
         ensures { Does (Letter.Rename a b) (⟦<ScaledAmps as Amps>⟧.store self.old)

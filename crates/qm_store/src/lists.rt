@@ -6,11 +6,12 @@ ghost use Rattle.qm_zomega.specs.NumberLists.{number_at, IsListOf};
 ghost use Rattle.qm_denot.specs.Places.{HasPlace};
 ghost use Rattle.qm_denot.specs.LettersByPlace.{take_at, pair_at};
 
+use qm_limits::MOST_CAPACITY;
 use qm_zomega::Zw;
 
 /// Appends as many zeros as there are numerators.
 pub(crate) fn double(numerators: &mut Vec<Zw>)
-    requires small { length numerators.old.items ≤ 2 ^ 22 }
+    requires small { length numerators.old.items ≤ 2 ^ MOST_CAPACITY }
     requires room { 2 * length numerators.old.items ≤ vec_capacity numerators.old }
     ensures size { length numerators.new.items ≡ 2 * length numerators.old.items }
     ensures numbers { (k : ℕ) → number_at numerators.new.items k
@@ -23,7 +24,7 @@ pub(crate) fn double(numerators: &mut Vec<Zw>)
 
 /// `Pair` on a list of `2^n` numerators.
 pub(crate) fn pair_list(numerators: &mut Vec<Zw>, n: u32)
-    requires few { n ≤ 22 }
+    requires few { n ≤ MOST_CAPACITY }
     requires size { length numerators.old.items ≡ 2 ^ n }
     requires room { 4 * length numerators.old.items ≤ vec_capacity numerators.old }
     ensures paired { IsListOf numerators.new.items (length numerators.old.items * 4)

@@ -38,18 +38,54 @@ const F: Wire = Wire {
     near: false,
 };
 
-/// Ten letters that leave no numerator zero and no two of them equal.
+/// Ten letters that leave no numerator of the wires `P`, `Q` and `R` zero and no two of them equal.
 const TEN: [Letter; 10] = [
     Letter::Had { w: P },
     Letter::Phase { k: 1, w: P },
     Letter::Had { w: Q },
     Letter::Cx { c: P, t: R },
-    Letter::Phase { k: 3, w: R },
+    Letter::Flip { w: R },
     Letter::Had { w: P },
     Letter::Cz { c: R, t: Q },
     Letter::Flip { w: Q },
     Letter::Had { w: R },
     Letter::Phase { k: 6, w: Q },
+];
+
+/// The sets of the five wires; those of the first eight are the sets of `P`, `Q` and `R`.
+const SETS: [&'static [Wire]; 32] = [
+    &[],
+    &[P],
+    &[Q],
+    &[R],
+    &[P, Q],
+    &[P, R],
+    &[Q, R],
+    &[P, Q, R],
+    &[E],
+    &[E, P],
+    &[E, Q],
+    &[E, R],
+    &[E, P, Q],
+    &[E, P, R],
+    &[E, Q, R],
+    &[E, P, Q, R],
+    &[F],
+    &[F, P],
+    &[F, Q],
+    &[F, R],
+    &[F, P, Q],
+    &[F, P, R],
+    &[F, Q, R],
+    &[F, P, Q, R],
+    &[E, F],
+    &[E, F, P],
+    &[E, F, Q],
+    &[E, F, R],
+    &[E, F, P, Q],
+    &[E, F, P, R],
+    &[E, F, Q, R],
+    &[E, F, P, Q, R],
 ];
 
 fn is_live<A: Amps>(amps: &A, w: Wire) -> bool
@@ -119,48 +155,83 @@ fn are_live<A: Amps>(amps: &A, u: Wire, v: Wire, w: Wire) -> bool
     u != v && u != w && v != w && is_live(amps, u) && is_live(amps, v) && is_live(amps, w)
 }
 
-/// The components of the numerator where just these wires are one; nothing for other sets than those of at most three live wires.
+/// Whether four wires are live and differ.
+fn four_live<A: Amps>(amps: &A, t: Wire, u: Wire, v: Wire, w: Wire) -> bool
+    ensures { result ≡ true
+        → (t ≢ u) × (t ≢ v) × (t ≢ w) × (u ≢ v) × (u ≢ w) × (v ≢ w)
+        × Contains (A.store amps.now).live t × Contains (A.store amps.now).live u
+        × Contains (A.store amps.now).live v × Contains (A.store amps.now).live w }
+{
+    t != u && t != v && t != w && is_live(amps, t) && are_live(amps, u, v, w)
+}
+
+/// Whether five wires are live and differ.
+fn five_live<A: Amps>(amps: &A, s: Wire, t: Wire, u: Wire, v: Wire, w: Wire) -> bool
+    ensures { result ≡ true
+        → (s ≢ t) × (s ≢ u) × (s ≢ v) × (s ≢ w) × (t ≢ u) × (t ≢ v) × (t ≢ w)
+        × (u ≢ v) × (u ≢ w) × (v ≢ w) × Contains (A.store amps.now).live s
+        × Contains (A.store amps.now).live t × Contains (A.store amps.now).live u
+        × Contains (A.store amps.now).live v × Contains (A.store amps.now).live w }
+{
+    s != t && s != u && s != v && s != w && is_live(amps, s) && four_live(amps, t, u, v, w)
+}
+
+/// The components of the numerator where just these wires are one; nothing where one of them isn't live.
 fn components<A: Amps>(amps: &A, ones: &[Wire]) -> Option<[i128; 4]> {
     let z = match *ones {
         [] => amps.value(&[]),
         [w] if is_live(amps, w) => amps.value(&[w]),
         [v, w] if v != w && is_live(amps, v) && is_live(amps, w) => amps.value(&[v, w]),
         [u, v, w] if are_live(amps, u, v, w) => amps.value(&[u, v, w]),
+        [t, u, v, w] if four_live(amps, t, u, v, w) => amps.value(&[t, u, v, w]),
+        [s, t, u, v, w] if five_live(amps, s, t, u, v, w) => amps.value(&[s, t, u, v, w]),
         _ => return None,
     };
     Some([z.a, z.b, z.c, z.d])
 }
 
-/// Whether two stores keep the same live wires, exponent and numerators.
-fn agree<A: Amps, B: Amps>(one: &A, other: &B) -> bool {
-    if one.live() != other.live() || one.exponent() != other.exponent() {
-        return false;
+/// Whether `v` can be zero, can be one, is always zero, and always equals `w`; nothing unless these are two live wires.
+fn branches<A: Amps>(amps: &A, v: Wire, w: Wire) -> Option<[bool; 4]>
+    requires { A.able }
+{
+    if v == w || !is_live(amps, v) || !is_live(amps, w) {
+        return None;
     }
-    for ones in [
-        &[][..],
-        &[P][..],
-        &[Q][..],
-        &[R][..],
-        &[P, Q][..],
-        &[P, R][..],
-        &[Q, R][..],
-        &[P, Q, R][..],
-        &[E][..],
-        &[F][..],
-        &[E, F][..],
-        &[E, P][..],
-        &[E, Q][..],
-        &[E, R][..],
-        &[E, P, R][..],
-        &[E, F, P][..],
-        &[E, F, Q][..],
-        &[E, F, R][..],
-    ] {
-        if components(one, ones) != components(other, ones) {
+    Some([
+        amps.can_be(v, false),
+        amps.can_be(v, true),
+        amps.always_zero(v),
+        amps.always_equal(v, w),
+    ])
+}
+
+/// Whether two stores give the same answers about branches.
+fn answers_agree<A: Amps, B: Amps>(one: &A, other: &B) -> bool
+    requires one { A.able }
+    requires other { B.able }
+{
+    for (v, w) in [(P, Q), (Q, R), (R, P), (E, F), (F, E), (E, P)] {
+        if branches(one, v, w) != branches(other, v, w) {
             return false;
         }
     }
     true
+}
+
+/// Whether two stores keep the same live wires, exponent and numerators, and give the same answers about branches.
+fn agree<A: Amps, B: Amps>(one: &A, other: &B) -> bool
+    requires one { A.able }
+    requires other { B.able }
+{
+    if one.live() != other.live() || one.exponent() != other.exponent() {
+        return false;
+    }
+    for ones in SETS {
+        if components(one, ones) != components(other, ones) {
+            return false;
+        }
+    }
+    answers_agree(one, other)
 }
 
 /// Applies the ten letters and one more to both stores, and compares them.
@@ -176,7 +247,7 @@ fn check(rt: &impl Abort, alloc: Global, letter: Letter) -> Result<(), AllocErro
 }
 
 #[test]
-fn each_letter_on_each_choice_of_places(rt: HostRuntime) -> Result<(), Fail> {
+fn both_stores_agree_after_each_letter(rt: HostRuntime) -> Result<(), Fail> {
     check(&rt, rt.alloc(), Letter::Pair { a: E, b: F })?;
     for w in [P, Q, R] {
         for k in 0..8 {
@@ -196,5 +267,66 @@ fn each_letter_on_each_choice_of_places(rt: HostRuntime) -> Result<(), Fail> {
             }
         }
     }
+    Ok(())
+}
+
+#[test]
+fn ten_letters_leave_eight_different_numerators(rt: HostRuntime) -> Result<(), Fail> {
+    let mut amps = ScaledAmps::start(rt.alloc(), 3)?;
+    run(&rt, &mut amps, &[P, Q, R], &TEN);
+    let mut seen = [Some([0; 4]); 9];
+    for j in 0..8 {
+        let z = components(&amps, SETS[j]);
+        assert!(rt; z.is_some() && !seen[..=j].contains(&z), "at {j}");
+        seen[j + 1] = z;
+    }
+    Ok(())
+}
+
+#[test]
+fn both_stores_tell_equal_wires(rt: HostRuntime) -> Result<(), Fail> {
+    let letters = [Letter::Had { w: P }, Letter::Cx { c: P, t: Q }];
+    let mut scaled = ScaledAmps::start(rt.alloc(), 3)?;
+    let mut plain = PlainAmps::start(rt.alloc(), 3)?;
+    run(&rt, &mut scaled, &[P, Q, R], &letters);
+    run(&rt, &mut plain, &[P, Q, R], &letters);
+    assert_eq!(rt; branches(&scaled, P, Q), Some([true, true, false, true]));
+    assert_eq!(rt; branches(&scaled, R, P), Some([true, false, true, false]));
+    assert!(rt; agree(&scaled, &plain));
+    Ok(())
+}
+
+/// Turns a wire and applies `Had` to it again and again, until one more `Had` overflows and leaves the store as it was.
+fn overflow<A: Amps>(rt: &impl Abort, amps: &mut A)
+    requires { A.able }
+{
+    let had = Letter::Had { w: P };
+    run(rt, amps, &[P], &[]);
+    for _ in 0..507 {
+        run(rt, amps, &[], &[had, Letter::Phase { k: 1, w: P }]);
+    }
+    let before = (
+        amps.exponent(),
+        components(amps, &[]),
+        components(amps, &[P]),
+    );
+    let may = may_apply(amps, had);
+    assert!(rt; may, "{had:?} may be applied");
+    assert!(rt; amps.apply(had).is_err(), "{had:?} overflows");
+    let after = (
+        amps.exponent(),
+        components(amps, &[]),
+        components(amps, &[P]),
+    );
+    assert!(rt; before == after);
+}
+
+#[test]
+fn an_overflow_leaves_both_stores_as_they_were(rt: HostRuntime) -> Result<(), Fail> {
+    let mut scaled = ScaledAmps::start(rt.alloc(), 1)?;
+    let mut plain = PlainAmps::start(rt.alloc(), 1)?;
+    overflow(&rt, &mut scaled);
+    overflow(&rt, &mut plain);
+    assert!(rt; agree(&scaled, &plain));
     Ok(())
 }

@@ -3,14 +3,12 @@
 
 ghost use Rattle.std.specs.Prelude.{◌≡◌, ◌<◌, ◌≤◌, length, drop, slice_get, slice_index_or, false, IfOk};
 
+use qm_limits::MOST_OUTCOMES;
 use std::alloc::{AllocError, Global};
 use std::marker::Model;
 
 #[cfg(test)]
 mod tests;
-
-/// The most bits that a tape may have.
-pub const MOST_BITS: usize = 1_048_576;
 
 /// The outcomes that are left on a tape, in their order.
 #[derive(Drop)]
@@ -21,18 +19,19 @@ pub struct Tape {
 
 impl Model for Tape {
     ghost use Rattle.std.specs.Prelude.{◌≤◌, Bool, List, drop, length};
+    ghost use Rattle.qm_limits.specs.declared.TheConstants.{MOST_OUTCOMES};
 
     ghost Value = { List Bool };
 
     ghost view = { λ t. drop t.used t.bits.items };
 
-    ghost invariant = { λ t. (t.used ≤ length t.bits.items) × (length t.bits.items ≤ 1048576) };
+    ghost invariant = { λ t. (t.used ≤ length t.bits.items) × (length t.bits.items ≤ MOST_OUTCOMES) };
 }
 
 impl Tape {
-    /// A tape of these bits, of which there are at most [`MOST_BITS`]. `AllocError` comes from the allocator alone.
+    /// A tape of these bits, of which there are at most [`MOST_OUTCOMES`]. `AllocError` comes from the allocator alone.
     pub fn start(alloc: Global, bits: &[bool]) -> Result<Tape, AllocError>
-        requires { length bits.now ≤ MOST_BITS }
+        requires { length bits.now ≤ MOST_OUTCOMES }
         ensures { IfOk result (λ t. t ≡ bits.now) }
     {
         let mut copy = Vec::with_capacity(alloc, bits.len())?;
@@ -61,10 +60,10 @@ impl Tape {
         bit
     }
 
-    /// How many bits are left, at most [`MOST_BITS`].
+    /// How many bits are left, at most [`MOST_OUTCOMES`].
     pub fn left(&self) -> u32
         ensures count { result ≡ length self.now }
-        ensures few { result ≤ MOST_BITS }
+        ensures few { result ≤ MOST_OUTCOMES }
     {
         (self.bits.len() - self.used) as u32
     }

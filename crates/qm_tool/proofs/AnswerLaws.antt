@@ -27,7 +27,8 @@ use Rattle.qm_print.specs.Slots.{full_slots}
 use Rattle.qm_print.specs.JobText.{job_text}
 use Rattle.qm_print.specs.StateText.{line_count, state_lines, IsStateText}
 use Rattle.qm_bits.specs.Numbers.{number_of_bits}
-use Rattle.qm_tool.specs.Due.{most_wires, OnReady, IsTextAfter, IsOneText, RunsTo, RefusedWith, IsCircuitText, WaitsWith, IsAmplitudesText, WideWith, OverflowsWith, IsCheckText, AnswersReady, IsJobText, JobRunsTo, WorksTo, DueOf, DueOfMaking, NoCommand, Makes, TooMuch, Whole, OneAnswer}
+use Rattle.qm_limits.specs.declared.TheConstants.{MOST_CAPACITY_1}
+use Rattle.qm_tool.specs.Due.{OnReady, IsTextAfter, IsOneText, RunsTo, RefusedWith, IsCircuitText, WaitsWith, IsAmplitudesText, WideWith, OverflowsWith, IsCheckText, AnswersReady, IsJobText, JobRunsTo, WorksTo, DueOf, DueOfMaking, NoCommand, Makes, TooMuch, Whole, OneAnswer}
 use Rattle.qm_tool.proofs.CommandLemmas.{never_both}
 use Rattle.qm_tool.proofs.DueLemmas.{one_due}
 use Rattle.qm_tool.proofs.EndLemmas.{same_circuit_text}
@@ -140,7 +141,7 @@ module _ (p : Programs) where
   MonoWay-one s s' a b (Waits x e) (Writes y f) = absurd (ends_or_early p f.circuit e.left f.one e.early)
 
   -- what keeps two ways apart
-  narrow_or_wide : (m n : OneView) → IsOneCircuit p m → IsOneCircuit p n → m.width ≤ most_wires → most_wires < n.width → ⊥
+  narrow_or_wide : (m n : OneView) → IsOneCircuit p m → IsOneCircuit p n → m.width ≤ MOST_CAPACITY_1 → MOST_CAPACITY_1 < n.width → ⊥
   narrow_or_wide m n e f narrow wide = omega (arith, same_width p m n e f, narrow, wide)
 
   fits_or_leaves : (m n : OneView) (at : ℕ) → IsOneCircuit p m → IsOneCircuit p n → NeverOverflows m.letters → IsFirstOverflow n.letters at → ⊥

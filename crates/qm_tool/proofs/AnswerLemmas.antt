@@ -41,7 +41,8 @@ use Rattle.qm_tool.specs.declared.status.Status.{Status}
 use Rattle.qm_tool.specs.declared.status.Status.TheVariants as status
 use Rattle.qm_tool.specs.Commands.{command_of, making_of, order_of, block_of}
 use Rattle.qm_tool.specs.Dues.{IsDue}
-use Rattle.qm_tool.specs.Due.{OnReady, ReadsReady, IsRefusedFor, RefusedWith, IsTextAfter, RunsTo, IsOneText, WaitsWith, IsAmplitudesText, most_wires, AnswersReady, DueOf}
+use Rattle.qm_limits.specs.declared.TheConstants.{MOST_CAPACITY_1}
+use Rattle.qm_tool.specs.Due.{OnReady, ReadsReady, IsRefusedFor, RefusedWith, IsTextAfter, RunsTo, IsOneText, WaitsWith, IsAmplitudesText, AnswersReady, DueOf}
 use Rattle.qm_tool.specs.Calls.{Made, Text, Ends, Whole, Broken}
 use Rattle.qm_tool.specs.Ends.{HeadSays, bits_in, text_under}
 use Rattle.qm_tool.specs.Running.{IsRun, text_where, run_status, run_text}
@@ -112,7 +113,7 @@ module _ (p : Programs) (m : OneView) (one : IsOneCircuit p m) where
         };
       }
 
-  pub amplitudes-answer : (s : Store) (scale : ℕ) (head : Head) (live : List Live) → m.width ≤ most_wires → HoldsCircuit m s → scale ≡ s.exponent + protocol_total p → HeadSays p (bits_of m) scale head
+  pub amplitudes-answer : (s : Store) (scale : ℕ) (head : Head) (live : List Live) → m.width ≤ MOST_CAPACITY_1 → HoldsCircuit m s → scale ≡ s.exponent + protocol_total p → HeadSays p (bits_of m) scale head
       → live ≡ full_slots p (slot_of m) → IsAmplitudesText p (text_under head live s.value)
   amplitudes-answer s scale head live narrow holds same says full =
       let says_so : HeadSays p (bits_of m) (s.exponent + protocol_total p) head = subst (λ n. HeadSays p (bits_of m) n head) same says in

@@ -32,8 +32,9 @@ use Rattle.qm_runs.proofs.Confluence.NamedWires.{state_of_run}
 use Rattle.qm_runs.proofs.Endings.Tests.{test_fails_or_not}
 use Rattle.qm_bits.specs.Numbers.{number_of_bits}
 use Rattle.qm_ideal.specs.OneCircuits.{wires_in, RankEnd, OneView, bits_of, slot_of, IsOneCircuit, left_from, EndsEarly}
-use Rattle.qm_ideal.specs.Existence.{IsRendezvousRun}
-use Rattle.qm_ideal.proofs.RunsExist.{one_run, one_rendezvous_run}
+use Rattle.qm_runs.specs.Stuck.Rendezvous.{IsRendezvous}
+use Rattle.qm_runs.proofs.Endings.IdealRuns as ideal_runs
+use Rattle.qm_runs.proofs.Stuck.Meetings as meetings
 use Rattle.qm_eval.specs.Overflows.{OverflowsAt, IsFirstOverflow, NeverOverflows}
 use Rattle.qm_print.specs.declared.FaultLine.TheVariants as line
 use Rattle.qm_print.specs.CheckText.{check_text}
@@ -45,7 +46,8 @@ use Rattle.qm_tool.specs.declared.command.Command.{Command}
 use Rattle.qm_tool.specs.declared.command.Command.TheVariants as command
 use Rattle.qm_tool.specs.declared.status.Status.{Status}
 use Rattle.qm_tool.specs.declared.status.Status.TheVariants as status
-use Rattle.qm_tool.specs.Due.{most_wires, IsOneText, AnswersReady}
+use Rattle.qm_limits.specs.declared.TheConstants.{MOST_CAPACITY_1}
+use Rattle.qm_tool.specs.Due.{IsOneText, AnswersReady}
 use Rattle.qm_proto.proofs.Meetings.{same_or_below}
 use Rattle.qm_proto.proofs.Firsts.{one_run-ideal}
 
@@ -217,19 +219,19 @@ HasAnswer p c = (s : Status) × (bytes : List ℕ) × AnswersReady s c p bytes
 module _ (p : Programs) (ready : IsReady p) (ranges : IsInRange p) where
   pub some_mono_answer : HasAnswer p command.Mono
   some_mono_answer =
-      let run = (one_run p).some in
-      let tables = (ideal_replay p run.0).tables in
+      let run = ideal_runs.one_run_law p in
+      let tables = (ideal_replay p run.ranks).tables in
       elim (least (has_instr p tables) (length p.ranks)) [
         | inl done ↦
-            let m = view p ready ranges run.0 run.1 in
-            (status.Ok, circuit_text p m, record { circuit = m; one = view_one p ready ranges run.0 run.1 done; whole = refl })
+            let m = view p ready ranges run.ranks run.run in
+            (status.Ok, circuit_text p m, record { circuit = m; one = view_one p ready ranges run.ranks run.run done; whole = refl })
         | inr (k, low) ↦
             let left = left_from p tables 0 (length p.ranks) in
-            (status.Waits, fault_text (line.Waits left), record { left = left; early = early p ready ranges run.0 run.1 k low; whole = refl })
+            (status.Waits, fault_text (line.Waits left), record { left = left; early = early p ready ranges run.ranks run.run k low; whole = refl })
       ]
 
   amps_of : (m : OneView) → IsOneCircuit p m → (text : List ℕ) × IsOneText p text → HasAnswer p command.MonoAmps
-  amps_of m one text = elim (cases_lt most_wires m.width) [
+  amps_of m one text = elim (cases_lt MOST_CAPACITY_1 m.width) [
     | inl wide ↦ (status.Wide, fault_text (line.Wide m.width), record { circuit = m; one = one; wide = wide; whole = refl })
     | inr narrow ↦ elim (never_or_first m.letters) [
       | inl fits ↦ (status.Ok, text.0, record { circuit = m; one = one; narrow = narrow; fits = fits; text = text.1 })
@@ -243,13 +245,13 @@ module _ (p : Programs) (ready : IsReady p) (ranges : IsInRange p) where
 
   pub some_amps_answer : HasAnswer p command.MonoAmps
   some_amps_answer =
-      let run = (one_run p).some in
-      let tables = (ideal_replay p run.0).tables in
+      let run = ideal_runs.one_run_law p in
+      let tables = (ideal_replay p run.ranks).tables in
       elim (least (has_instr p tables) (length p.ranks)) [
-        | inl done ↦ amps_of (view p ready ranges run.0 run.1) (view_one p ready ranges run.0 run.1 done) (one_text p ready ranges run.0 run.1 done)
+        | inl done ↦ amps_of (view p ready ranges run.ranks run.run) (view_one p ready ranges run.ranks run.run done) (one_text p ready ranges run.ranks run.run done)
         | inr (k, low) ↦
             let left = left_from p tables 0 (length p.ranks) in
-            (status.Waits, fault_text (line.Waits left), record { left = left; early = early p ready ranges run.0 run.1 k low; whole = refl })
+            (status.Waits, fault_text (line.Waits left), record { left = left; early = early p ready ranges run.ranks run.run k low; whole = refl })
       ]
 
 -- ---- the rendezvous run
@@ -260,22 +262,23 @@ module _ (p : Programs) where
   abbrev tight_end : List ℕ → Tables
   tight_end rs = fold (next_tables tight) (tables_at_start tight) rs
 
-  meets : (rs : List ℕ) → IsRendezvousRun p rs → AllEnded tight (tight_end rs) → RendezvousEnds p
+  meets : (rs : List ℕ) → IsRendezvous p rs → AllEnded tight (tight_end rs) → RendezvousEnds p
   unfolding RendezvousEnds
   meets rs run ended = (rs, run, ended)
 
-  waits : (rs : List ℕ) → IsRendezvousRun p rs → (k : ℕ) → IsLeast (has_event tight (tight_end rs)) (length tight.ranks) k → ¬ RendezvousEnds p
+  waits : (rs : List ℕ) → IsRendezvous p rs → (k : ℕ) → IsLeast (has_event tight (tight_end rs)) (length tight.ranks) k → ¬ RendezvousEnds p
   unfolding RendezvousEnds
   waits rs run k low ends =
-      let same : ends.0 ≡ rs = (one_rendezvous_run p).one ends.0 rs ends.1 run in
+      let one = meetings.rendezvous_law p in
+      let same : ends.0 ≡ rs = one.only ends.0 ends.1 ∙ sym (one.only rs run) in
       let none : has_event tight (tight_end rs) k ≡ false = subst (λ xs. has_event tight (tight_end xs) k ≡ false) same (ends.2 k low.below) in
       let some = low.here in
       cc
 
   pub some_check_answer : HasAnswer p command.Check
   some_check_answer =
-      let run = (one_rendezvous_run p).some in
-      elim (least (has_event tight (tight_end run.0)) (length tight.ranks)) [
-        | inl ended ↦ (status.Ok, check_text p true, record { meets = true; so = (λ t. meets run.0 run.1 ended, λ e. refl); whole = refl })
-        | inr (k, low) ↦ (status.Ok, check_text p false, record { meets = false; so = (λ t. absurd (let z : false ≡ true = t in cc), λ e. absurd (waits run.0 run.1 k low e)); whole = refl })
+      let run = meetings.rendezvous_law p in
+      elim (least (has_event tight (tight_end run.schedule)) (length tight.ranks)) [
+        | inl ended ↦ (status.Ok, check_text p true, record { meets = true; so = (λ t. meets run.schedule run.run ended, λ e. refl); whole = refl })
+        | inr (k, low) ↦ (status.Ok, check_text p false, record { meets = false; so = (λ t. absurd (let z : false ≡ true = t in cc), λ e. absurd (waits run.schedule run.run k low e)); whole = refl })
       ]

@@ -18,12 +18,13 @@ use Rattle.qm_instr.proofs.LaneOrder.{lane_order-total, same_lane}
 use Rattle.qm_check.specs.declared.Fault.{Fault}
 use Rattle.qm_check.specs.declared.Fault.TheVariants as fault
 use Rattle.qm_check.specs.Faults.{IsFirst, IsBelow, IsEarlierStep, IsEarlierTape}
-use Rattle.qm_check.specs.Messages.{lane_posted, lane_sends, lane_receives, is_back, match_fault, lane_fault, IsLower}
+use Rattle.qm_check.specs.Messages.{lane_sends, lane_receives, is_back, match_fault, lane_fault, IsLower}
 use Rattle.qm_check.specs.Slots.{full_after, fault_if_any, step_fault}
 use Rattle.qm_check.specs.Tapes.{length_fault, tape_fault}
 use Rattle.qm_check.specs.Checks.{Width, fault_at, IsBefore, IsReady, IsFirstFault}
 use Rattle.qm_check.proofs.Firsts.{NoneBefore, first_in_row}
 use Rattle.qm_check.proofs.Places.{first_of_all}
+use Rattle.qm_check.proofs.PostLanes.{post_lane, posts_in-lane}
 use Rattle.qm_proto.proofs.Meetings.{same_or_below}
 
 -- ---- numbered places, of which those from some number on have no fault
@@ -201,7 +202,7 @@ module _ (faults : Lane → Option Fault) where
 -- ---- the lanes of instructions
 lanes_of : ℕ → List Instr → List Lane
 lanes_of r [] = []
-lanes_of r (i ∷ is) = option_to_list (lane_posted r i) ++ (option_to_list (lane_received r i) ++ lanes_of r is)
+lanes_of r (i ∷ is) = option_to_list (post_lane r i) ++ (option_to_list (lane_received r i) ++ lanes_of r is)
 
 lanes_below : Programs → ℕ → List Lane
 lanes_below p zero = []
@@ -222,21 +223,21 @@ named_among r a which at (i ∷ is) = by_here (is_on (which i) a) refl (named_am
         → (count_by (λ i. is_on (which i) a) (i ∷ is) ≡ 0) ⊎ Among (lanes_of r (i ∷ is)) a
     by_here true e rest = inr (at i is (on_among (which i) a e))
     by_here false e (inr h) =
-        inr (among-right (option_to_list (lane_posted r i)) (option_to_list (lane_received r i) ++ lanes_of r is) a (among-right (option_to_list (lane_received r i)) (lanes_of r is) a h))
+        inr (among-right (option_to_list (post_lane r i)) (option_to_list (lane_received r i) ++ lanes_of r is) a (among-right (option_to_list (lane_received r i)) (lanes_of r is) a h))
     by_here false e (inl none) =
         let one_if : Bool → ℕ = λ b. cond b 1 0 in
         let all = sum_by-cons (λ j. one_if (is_on (which j) a)) i is in
         let zero_here : one_if (is_on (which i) a) ≡ 0 = ap one_if e in
         inl (omega (arith, all, zero_here, none))
 
-posted_among : (r : ℕ) (a : Lane) (i : Instr) (is : List Instr) → Among (option_to_list (lane_posted r i)) a → Among (lanes_of r (i ∷ is)) a
+posted_among : (r : ℕ) (a : Lane) (i : Instr) (is : List Instr) → Among (option_to_list (post_lane r i)) a → Among (lanes_of r (i ∷ is)) a
 unfolding lanes_of
-posted_among r a i is h = among-left (option_to_list (lane_posted r i)) (option_to_list (lane_received r i) ++ lanes_of r is) a h
+posted_among r a i is h = among-left (option_to_list (post_lane r i)) (option_to_list (lane_received r i) ++ lanes_of r is) a h
 
 received_among : (r : ℕ) (a : Lane) (i : Instr) (is : List Instr) → Among (option_to_list (lane_received r i)) a → Among (lanes_of r (i ∷ is)) a
 unfolding lanes_of
 received_among r a i is h =
-    among-right (option_to_list (lane_posted r i)) (option_to_list (lane_received r i) ++ lanes_of r is) a (among-left (option_to_list (lane_received r i)) (lanes_of r is) a h)
+    among-right (option_to_list (post_lane r i)) (option_to_list (lane_received r i) ++ lanes_of r is) a (among-left (option_to_list (lane_received r i)) (lanes_of r is) a h)
 
 module _ (p : Programs) where
   -- of the first n ranks
@@ -253,9 +254,9 @@ module _ (p : Programs) where
 
   all_sent : (a : Lane) → (lane_sends p a ≡ 0) ⊎ Among (lanes_below p (length p.ranks)) a
   all_sent a = elim (cases_lt a.from (length p.ranks)) [
-    | inr past ↦ inl (none_past a.from a (lane_posted a.from) past)
-    | inl known ↦ elim (named_among a.from a (lane_posted a.from) (posted_among a.from a) (rank_of p a.from).instructions) [
-      | inl none ↦ inl none
+    | inr past ↦ inl (posts_in-lane a.from a (rank_of p a.from).instructions ∙ none_past a.from a (post_lane a.from) past)
+    | inl known ↦ elim (named_among a.from a (post_lane a.from) (posted_among a.from a) (rank_of p a.from).instructions) [
+      | inl none ↦ inl (posts_in-lane a.from a (rank_of p a.from).instructions ∙ none)
       | inr h ↦ inr (rank_among (length p.ranks) a.from a known h)
     ]
   ]

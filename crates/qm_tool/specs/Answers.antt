@@ -3,6 +3,7 @@ use Rattle.std.specs.Prelude.{◌≡◌, ℕ, ◌≤◌, List, Result, Ok, Err}
 use Rattle.std.specs.declared.alloc.AllocError.{AllocError}
 use Rattle.qm_io.specs.Ends.{SinkView, SourceView}
 use Rattle.qm_denot.specs.Stores.{Store}
+use Rattle.qm_limits.specs.declared.TheConstants.{MOST_RANKS}
 use Rattle.qm_instr.specs.Programs.{Programs}
 use Rattle.qm_ideal.specs.OneCircuits.{IsOneCircuit}
 use Rattle.qm_print.specs.CheckText.{check_text}
@@ -44,7 +45,7 @@ text_of store (answer.Worked recipe run) = work_text store recipe run
 
 -- there are few ranks, and the slots hold different live wires
 pub record MayPutAmplitudes {A : Type 0} (store : A → Store) (a : Amplitudes A) : Type 0 where
-  pub few : a.head.ranks ≤ 16
+  pub few : a.head.ranks ≤ MOST_RANKS
   pub live : AreLive (store a.amps).live a.live.items
 
 -- what must hold before it is written

@@ -19,10 +19,12 @@ use Rattle.qm_print.specs.FaultText.{fault_text}
 -- asked for; or a read failed, it gave too much, or it gave a whole text
 pub data Comes (words : List (List ℕ)) (old new : SourceView) : Status → List ℕ → Type 0 where
   Unasked : IsNoCommand words → new ≡ old → Comes words old new status.Usage (fault_text line.Usage)
-  Made : (m : Making) (s : Status) (bytes : List ℕ) → making_of words ≡ Some m → new ≡ old → DueOfMaking m s bytes → Comes words old new s bytes
+  Made : (m : Making) (s : Status) (bytes : List ℕ) → making_of words ≡ Some m → new ≡ old → DueOfMaking m s bytes
+      → Comes words old new s bytes
   Failed : (c : Command) → command_of words ≡ Some c → FailedOnce old new → Comes words old new status.ReadFault (fault_text line.ReadFault)
   More : (c : Command) → command_of words ≡ Some c → GaveMore old new → Comes words old new status.TooLong (fault_text line.TooLong)
-  Text : (c : Command) (text : List ℕ) (s : Status) (bytes : List ℕ) → command_of words ≡ Some c → GaveAll old new text → DueOf c text s bytes → Comes words old new s bytes
+  Text : (c : Command) (text : List ℕ) (s : Status) (bytes : List ℕ) → command_of words ≡ Some c → GaveAll old new text
+      → DueOf c text s bytes → Comes words old new s bytes
 
 -- the status that was due, with all its bytes taken; or a failed write, with a front of them
 pub data Ends (due : Status) (bytes : List ℕ) (old new : SinkView) : Status → Type 0 where

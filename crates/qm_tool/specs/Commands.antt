@@ -9,6 +9,7 @@ use Rattle.qm_gen.specs.Made.{made_text}
 use Rattle.qm_seed.specs.Seeds.{seed_words}
 use Rattle.qm_gen.specs.Sizes.{IsSize}
 use Rattle.qm_tool.specs.Dues.{Order, Lowest, Seeded}
+use Rattle.qm_tool.specs.declared.command.TheConstants.{MOST_DIGITS, MOST_SIZE_DIGITS, LARGEST_NUMBER}
 use Rattle.qm_tool.specs.declared.command.Command.{Command}
 use Rattle.qm_tool.specs.declared.command.Command.TheVariants as command
 use Rattle.qm_tool.specs.declared.command.Making.{Making}
@@ -26,12 +27,12 @@ digits_after n (b ∷ bs) = if nat_le 48 b && nat_le b 57 then digits_after (10 
 
 -- a value that a number may have
 abbrev pub if_small : Option ℕ → Option ℕ
-if_small o = option_and_then (λ n. if nat_le n 18446744073709551615 then Some n else None) o
+if_small o = option_and_then (λ n. if nat_le n LARGEST_NUMBER then Some n else None) o
 
--- the number that a word is: it has 1 to 20 decimal digits, and its value is at most 2^64 - 1
+-- the number that a word is: it has some decimal digits, not too many, and a value that a number may have
 abbrev pub number_of : List ℕ → Option ℕ
 number_of [] = None
-number_of (b ∷ bs) = if nat_le (length (b ∷ bs)) 20 then if_small (digits_after 0 (b ∷ bs)) else None
+number_of (b ∷ bs) = if nat_le (length (b ∷ bs)) MOST_DIGITS then if_small (digits_after 0 (b ∷ bs)) else None
 
 -- the command that one word is
 abbrev pub one_word : List ℕ → Option Command
@@ -65,12 +66,13 @@ has_size Ring n = nat_le LEAST_RING n && nat_le n MOST_RING
 has_size Ghz n = nat_le LEAST_GHZ n && nat_le n MOST_GHZ
 has_size Parity n = nat_le LEAST_PARITY n && nat_le n MOST_PARITY
 
+-- a size, where it is one of the kind
 abbrev pub if_sized : GenKind → Option ℕ → Option ℕ
 if_sized kind o = option_and_then (λ n. if has_size kind n then Some n else None) o
 
--- the size that a word is: it has 1 to 9 decimal digits, and programs of this kind have it
+-- the size that a word is: it has some decimal digits, fewer than a number may have, and programs of this kind have it
 abbrev pub size_of : GenKind → List ℕ → Option ℕ
-size_of kind w = if nat_le (length w) 9 then if_sized kind (number_of w) else None
+size_of kind w = if nat_le (length w) MOST_SIZE_DIGITS then if_sized kind (number_of w) else None
 
 -- the made program of a kind, a size and a number
 abbrev pub recipe : GenKind → ℕ → ℕ → Recipe
@@ -106,6 +108,7 @@ pub record IsNoCommand (words : List (List ℕ)) : Type 0 where
 abbrev pub IsSized : Recipe → Type 0
 IsSized r = IsSize r.kind r.size
 
+-- so have those that a command makes
 abbrev pub IsSizedMaking : Making → Type 0
 IsSizedMaking (making.Gen r) = IsSized r
 IsSizedMaking (making.Job r) = IsSized r

@@ -3,6 +3,7 @@ use Rattle.std.specs.Prelude.{◌≡◌, ℕ, ◌<◌, ◌≤◌, ◌⊎◌, ◌
 use Rattle.qm_denot.specs.Circuits.{Amplitudes}
 use Rattle.qm_denot.specs.Stores.{IsReducedForm}
 use Rattle.qm_instr.specs.Programs.{Programs, IsInRange}
+use Rattle.qm_limits.specs.declared.TheConstants.{MOST_BYTES, MOST_CAPACITY_1}
 use Rattle.qm_check.specs.declared.Fault.{Fault}
 use Rattle.qm_check.specs.Checks.{IsReady, IsFirstFault}
 use Rattle.qm_proto.specs.Model.Schedules.{replay, protocol_total, RendezvousEnds}
@@ -20,7 +21,6 @@ use Rattle.qm_tool.specs.declared.command.Making.{Making}
 use Rattle.qm_tool.specs.declared.command.Making.TheVariants as making
 use Rattle.qm_tool.specs.declared.command.Play.{Play}
 use Rattle.qm_tool.specs.declared.command.Recipe.{Recipe}
-use Rattle.qm_io.specs.declared.intake.TheConstants.{TEXT_LIMIT}
 use Rattle.qm_print.specs.declared.FaultLine.{FaultLine}
 use Rattle.qm_print.specs.declared.FaultLine.TheVariants as line
 use Rattle.qm_tool.specs.declared.status.Status.{Status}
@@ -149,30 +149,26 @@ pub record WaitsWith (p : Programs) (bytes : List ℕ) : Type 0 where
   pub early : EndsEarly p left
   pub whole : bytes ≡ fault_text (line.Waits left)
 
--- the most wires that a store of amplitudes has room for, in version 1 of the text
-abbrev pub most_wires : ℕ
-most_wires = 20
-
--- the one circuit fits into a store and no letter leaves the range, and the bytes are its state text
+-- the one circuit needs no more than the capacity of version 1 and no letter leaves the range, and the bytes are its state text
 pub record IsAmplitudesText (p : Programs) (bytes : List ℕ) : Type 0 where
   pub circuit : OneView
   pub one : IsOneCircuit p circuit
-  pub narrow : circuit.width ≤ most_wires
+  pub narrow : circuit.width ≤ MOST_CAPACITY_1
   pub fits : NeverOverflows circuit.letters
   pub text : IsOneText p bytes
 
--- the one circuit is too wide, and the bytes are the line of its width
+-- the one circuit needs more than the capacity of version 1, and the bytes are the line of its width
 pub record WideWith (p : Programs) (bytes : List ℕ) : Type 0 where
   pub circuit : OneView
   pub one : IsOneCircuit p circuit
-  pub wide : most_wires < circuit.width
+  pub wide : MOST_CAPACITY_1 < circuit.width
   pub whole : bytes ≡ fault_text (line.Wide circuit.width)
 
 -- a letter of the one circuit leaves the range, and the bytes are the line of the first that does
 pub record OverflowsWith (p : Programs) (bytes : List ℕ) : Type 0 where
   pub circuit : OneView
   pub one : IsOneCircuit p circuit
-  pub narrow : circuit.width ≤ most_wires
+  pub narrow : circuit.width ≤ MOST_CAPACITY_1
   pub at : ℕ
   pub first : IsFirstOverflow circuit.letters at
   pub whole : bytes ≡ fault_text (line.LetterOverflow at)
@@ -213,8 +209,9 @@ DueOfMaking m s bytes = ⊥
 pub data Due (words : List (List ℕ)) (text : List ℕ) : Status → List ℕ → Type 0 where
   NoCommand : IsNoCommand words → Due words text status.Usage (fault_text line.Usage)
   Makes : (m : Making) (s : Status) (bytes : List ℕ) → making_of words ≡ Some m → DueOfMaking m s bytes → Due words text s bytes
-  TooMuch : (c : Command) → command_of words ≡ Some c → TEXT_LIMIT < length text → Due words text status.TooLong (fault_text line.TooLong)
-  Whole : (c : Command) (s : Status) (bytes : List ℕ) → command_of words ≡ Some c → length text ≤ TEXT_LIMIT → DueOf c text s bytes → Due words text s bytes
+  TooMuch : (c : Command) → command_of words ≡ Some c → MOST_BYTES < length text → Due words text status.TooLong (fault_text line.TooLong)
+  Whole : (c : Command) (s : Status) (bytes : List ℕ) → command_of words ≡ Some c → length text ≤ MOST_BYTES → DueOf c text s bytes
+      → Due words text s bytes
 
 -- ---- texts of which no run stops
 -- the text reads as programs of which no legal schedule comes to a refused event, and none to a stuck state or the rendezvous run ends
@@ -227,7 +224,8 @@ pub record IsSure (text : List ℕ) : Type 0 where
 -- ---- laws
 -- one status and one text alone is due
 abbrev pub OneAnswer : Type 0
-OneAnswer = (words : List (List ℕ)) (text : List ℕ) (s s' : Status) (bytes bytes' : List ℕ) → Due words text s bytes → Due words text s' bytes' → (s ≡ s') × (bytes ≡ bytes')
+OneAnswer = (words : List (List ℕ)) (text : List ℕ) (s s' : Status) (bytes bytes' : List ℕ)
+    → Due words text s bytes → Due words text s' bytes' → (s ≡ s') × (bytes ≡ bytes')
 
 -- a status and a text are due for all words and all bytes that a source may have
 abbrev pub SomeAnswer : Type 0
@@ -243,5 +241,6 @@ pub record AgreesWithRun (play : Play) (text bytes : List ℕ) : Type 0 where
   pub amplitudes : (state : List ℕ) → DueOf command.MonoAmps text status.Ok state → OnReady (λ p. IsWithBlock play p state) text bytes
   pub goes_on : (c : Command) (other : List ℕ) → ¬ DueOf c text status.Waits other
 
+-- where a running command ends well, the bytes that are due agree with the one circuit
 abbrev pub OneCircuitLaw : Type 0
 OneCircuitLaw = (play : Play) (text bytes : List ℕ) → DueOf (command.Run play) text status.Ok bytes → AgreesWithRun play text bytes

@@ -44,6 +44,7 @@ pub data Order : Type 0 where
   Lowest : Order
   Seeded : (seed : ℕ) → Order
 
+-- the words by which the ranks take their turns in this order
 abbrev pub order_words : Order → Words
 order_words Lowest = from_the_lowest
 order_words (Seeded seed) = seed_words seed

@@ -1,6 +1,7 @@
 -- What ranks have at the end of a run, as a state text says it
 use Rattle.std.specs.Prelude.{◌≡◌, ℕ, ◌<◌, ◌≤◌, Bool, List, length, slice_index}
 use Rattle.qm_denot.specs.Circuits.{Amplitudes}
+use Rattle.qm_limits.specs.declared.TheConstants.{MOST_RANKS}
 use Rattle.qm_instr.specs.Programs.{Programs}
 use Rattle.qm_proto.specs.Model.Schedules.{protocol_total}
 use Rattle.qm_bits.specs.Numbers.{number_of_bits}
@@ -16,7 +17,7 @@ bits_in m r = ((state_of m).tables.parts r).bits
 -- the head says how many ranks the programs have, their protocol total, their bits and this scale
 pub record HeadSays (p : Programs) (bits : ℕ → List Bool) (scale : ℕ) (head : Head) : Type 0 where
   pub ranks : head.ranks ≡ length p.ranks
-  pub few : head.ranks ≤ 16
+  pub few : head.ranks ≤ MOST_RANKS
   pub protocol : head.protocol ≡ protocol_total p
   pub scale_so : head.scale ≡ scale
   pub bits_so : (r : ℕ) → r < length p.ranks → slice_index head.bits r ≡ number_of_bits (bits r)

@@ -1,6 +1,7 @@
 -- A machine that was played: its status, its text, and what must hold before it is written
 use Rattle.std.specs.Prelude.{◌≡◌, ℕ, ◌≤◌, List, ◌++◌, length, Option, Some, None}
 use Rattle.qm_denot.specs.Stores.{Store, StandsFor}
+use Rattle.qm_limits.specs.declared.TheConstants.{MOST_RANKS}
 use Rattle.qm_instr.specs.Programs.{Programs, IsInRange}
 use Rattle.qm_machine.specs.declared.Halt.{Halt}
 use Rattle.qm_machine.specs.Keeps.{MachineView, state_of}
@@ -27,6 +28,7 @@ IsStopOf m None = m.halted ≡ None
 IsStopOf m (Some f) = (h : Halt) × (m.halted ≡ Some h) × (f ≡ line.Stopped h.rank h.turns h.cause)
 
 -- ---- what is written
+-- the status of a stop's line, or that of success where there is none
 abbrev pub status_where : Option FaultLine → Status
 status_where None = status.Ok
 status_where (Some stop) = status_of_fault stop
@@ -40,6 +42,7 @@ abbrev pub text_where : List ℕ → Option FaultLine → List ℕ
 text_where state None = state
 text_where state (Some stop) = fault_text stop
 
+-- the line of a run's stop, or the state text of its end
 abbrev pub end_text : {A : Type 0} → (A → Store) → Run A → List ℕ
 end_text store run = text_where (text_under run.head run.live.items (store run.machine.amps).value) run.stop
 
@@ -69,7 +72,7 @@ MayPutStop (Some stop) = NamesNoAnswers stop
 
 -- there are few ranks, and the slots hold different live wires
 pub record MayPutRun {A : Type 0} (store : A → Store) (run : Run A) : Type 0 where
-  pub few : run.head.ranks ≤ 16
+  pub few : run.head.ranks ≤ MOST_RANKS
   pub live : AreLive (store run.machine.amps).live run.live.items
   pub stop : MayPutStop run.stop
 

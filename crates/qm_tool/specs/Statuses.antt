@@ -5,6 +5,7 @@ use Rattle.qm_print.specs.declared.FaultLine.TheVariants as line
 use Rattle.qm_tool.specs.declared.status.Status.{Status}
 use Rattle.qm_tool.specs.declared.status.Status.TheVariants.{Ok, Usage, ReadFault, TooLong, Refused, Stopped, WriteFault, OutOfMemory, Waits, Wide, LetterOverflow}
 
+-- the exit code of a status
 abbrev pub code_of : Status → ℕ
 code_of Ok = 0
 code_of Usage = 2

@@ -11,12 +11,10 @@ use qm_check::Ready;
 use qm_denot::Amps;
 use qm_eval::evaluate;
 use qm_ideal::{MonoError, OneCircuit, mono, rendezvous};
+use qm_limits::MOST_CAPACITY_1;
 use qm_print::{FaultLine, Head, Live};
 use qm_store::ScaledAmps;
 use std::alloc::{AllocError, Global};
-
-/// The most wires for which a store of amplitudes has room, in version 1 of the text.
-const MOST_WIRES: u32 = 20;
 
 /// A store that stands for the one circuit of programs, and what its text says of it.
 #[derive(Drop)]
@@ -55,7 +53,7 @@ fn values_of(
     ensures may_put { IfOk result (MayPut (⟦<ScaledAmps as Amps>⟧.store)) }
 {
     let width = circuit.width();
-    if width > MOST_WIRES {
+    if width > MOST_CAPACITY_1 {
         return Ok(Answer::Fault {
             fault: FaultLine::Wide { width },
         });

@@ -48,16 +48,16 @@ pub enum Making {
     Job { recipe: Recipe },
 }
 
-/// The most digits that a number may have.
+/// How many digits a number may have.
 const MOST_DIGITS: usize = 20;
 
-/// The most digits that a size may have.
+/// How many digits a size may have.
 const MOST_SIZE_DIGITS: usize = 9;
 
-/// The largest number.
+/// The largest number, 2^64 - 1.
 const LARGEST_NUMBER: u128 = 18_446_744_073_709_551_615;
 
-/// The number that a word of 1 to 20 decimal digits is, if its value is at most 2^64 - 1.
+/// The number that a word of 1 to [`MOST_DIGITS`] decimal digits is, if its value is at most [`LARGEST_NUMBER`].
 fn number_of(word: &[u8]) -> Option<u64>
     ensures { result ≡ number_of word.now }
 {
@@ -113,8 +113,8 @@ fn two_words(name: &String, word: &String) -> Option<Command>
     }
 }
 
-/// The command on a program of the source that words are, matched exactly. `None` where they are none of the forms `plain`, `sched K`, `trace K`, `mono`, `mono amps`
-/// and `check`.
+/// The command on a program of the source that words are, matched exactly. `None` where they are none of the forms `plain`, `sched K`,
+/// `trace K`, `mono`, `mono amps` and `check`.
 pub(crate) fn command_of(words: &[String]) -> Option<Command>
     ensures { result ≡ command_of (map string_bytes words.now) }
 {

@@ -13,7 +13,7 @@ use qm_denot::{Amps, Wire};
 use qm_ideal::OneCircuit;
 use qm_instr::Input;
 use qm_machine::Machine;
-use qm_print::{Head, Live};
+use qm_print::{Head, Live, RANKS};
 use std::alloc::{AllocError, Global};
 
 /// Ranks at the end of a run.
@@ -110,7 +110,7 @@ pub(crate) fn head_of<E: RankEnds>(ready: &Ready, ends: &E, scale: u64) -> Head
     ensures { HeadSays ready.now (E.bits ends.now) scale result }
 {
     let ranks = ready.input().ranks();
-    let mut bits = [0; 16];
+    let mut bits = [0; RANKS];
     for rank in 0..ranks {
         bits[usize::from(rank)] = ends.rank_bits(rank);
     }

@@ -5,7 +5,7 @@ ghost use Rattle.qm_tool.specs.Reading.{Explains};
 
 use qm_check::{CheckError, Ready, check};
 use qm_expand::{ReadError, read};
-use qm_lex::MOST_BYTES;
+use qm_limits::MOST_BYTES;
 use qm_print::FaultLine;
 use std::alloc::Global;
 
@@ -35,7 +35,7 @@ fn reading_fault(error: ReadError) -> Option<FaultLine>
     }
 }
 
-/// Reads the programs of a text of at most 1,048,576 bytes, and checks them. `Memory` comes only where memory runs out.
+/// Reads the programs of a text of at most [`MOST_BYTES`] bytes, and checks them. `Memory` comes only where memory runs out.
 pub(crate) fn read_ready(alloc: Global, text: &[u8]) -> Result<Ready, Unread>
     requires { length text.now ≤ MOST_BYTES }
     ensures ok { IfOk result (ReadsReady text.now) }

@@ -17,7 +17,7 @@ pub enum Status {
     TooLong,
     /// The text is no program that may run.
     Refused,
-    /// The program stopped at an event that is refused.
+    /// The run came to an event that is refused, or to a state in which every rank that is left waits.
     Stopped,
     /// A write or the flush failed.
     WriteFault,
@@ -25,7 +25,7 @@ pub enum Status {
     OutOfMemory,
     /// The programs have no one circuit, since ranks wait for each other.
     Waits,
-    /// The one circuit has more wires than a store has room for.
+    /// The one circuit has more wires at once than [`qm_limits::MOST_CAPACITY_1`].
     Wide,
     /// A letter of the one circuit leaves the range of the numbers.
     LetterOverflow,

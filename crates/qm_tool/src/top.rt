@@ -20,7 +20,8 @@ use crate::running::Run;
 use crate::status::Status;
 use qm_check::Ready;
 use qm_denot::Amps;
-use qm_io::{Sink, Source, TEXT_LIMIT, TextError, read_all};
+use qm_io::{Sink, Source, TextError, read_all};
+use qm_limits::MOST_BYTES;
 use qm_print::FaultLine;
 use qm_store::ScaledAmps;
 use std::alloc::{AllocError, Global};
@@ -53,7 +54,7 @@ fn answer_text(
     command: Command,
     text: &[u8],
 ) -> Result<Answer<ScaledAmps>, AllocError>
-    requires { length text.now ≤ TEXT_LIMIT }
+    requires { length text.now ≤ MOST_BYTES }
     ensures due { IfOk result (AnswersText (⟦<ScaledAmps as Amps>⟧.store) command text.now) }
     ensures may_put { IfOk result (MayPut (⟦<ScaledAmps as Amps>⟧.store)) }
 {
@@ -134,11 +135,11 @@ fn conclude<A: Amps, O: Sink>(sink: &mut O, answer: Result<Answer<A>, AllocError
 /// The commands are `plain`, `sched K`, `trace K`, `mono`, `mono amps`, `check`, `gen KIND SIZE NUMBER` and `job KIND SIZE NUMBER`, where K
 /// and NUMBER have 1 to 20 decimal digits and are at most 2^64 - 1, KIND is `ring`, `ghz` or `parity`, and SIZE has 1 to 9 decimal digits
 /// and is 1 to 10,000 for a ring, 2 to 10 for a GHZ state and 1 to 9,000 for a parity; all other words are answered by `Usage`. All but
-/// `gen` and `job` read programs. The first three give the ranks their turns until all have ended,
-/// and write the state text: under `plain` each turn is the lowest rank's that is neither ended nor blocked, under the other two the one's
-/// that the seed K chooses, and `trace K` writes the events of the turns too. `mono` writes the text of the programs' one circuit, `mono
-/// amps` the state text of its amplitudes, and `check` the totals of the programs and whether their rendezvous run ends. `gen` writes the
-/// text of a made program, and `job` runs it as `plain` does and writes a summary of the run. All memory is taken before the first byte is written.
+/// `gen` and `job` read programs. The first three give the ranks their turns until all have ended, and write the state text: under
+/// `plain` each turn is the lowest rank's that is neither ended nor blocked, under the other two the one's that the seed K chooses, and
+/// `trace K` writes the events of the turns too. `mono` writes the text of the programs' one circuit, `mono amps` the state text of its
+/// amplitudes, and `check` the totals of the programs and whether their rendezvous run ends. `gen` writes the text of a made program,
+/// and `job` runs it as `plain` does and writes a summary of the run. All memory is taken before the first byte is written.
 pub fn tool_plain<I: Source, O: Sink>(
     alloc: Global,
     words: &[String],
@@ -211,16 +212,19 @@ pub fn tool_plain<I: Source, O: Sink>(
         (I.seen source.old) (I.seen source.new) (O.seen sink.old) (O.seen sink.new))
         ⊎ UnderJob (map string_bytes words.now) (λ recipe. WroteAlone (WorksTo false recipe)
         (I.seen source.old) (I.seen source.new) (O.seen sink.old) (O.seen sink.new)) }
-    ensures waits { result ≡ Status.Waits → AsksForCircuit (map string_bytes words.now)
-        × Wrote (OnReady WaitsWith)
+    ensures waits_command { result ≡ Status.Waits → AsksForCircuit (map string_bytes words.now) }
+    ensures waits { result ≡ Status.Waits
+        → Wrote (OnReady WaitsWith)
         (I.seen source.old) (I.seen source.new) (O.seen sink.old) (O.seen sink.new) }
+    ensures wide_command { result ≡ Status.Wide
+        → command_of (map string_bytes words.now) ≡ Some Command.MonoAmps }
     ensures wide { result ≡ Status.Wide
-        → (command_of (map string_bytes words.now) ≡ Some Command.MonoAmps)
-        × Wrote (OnReady WideWith)
+        → Wrote (OnReady WideWith)
         (I.seen source.old) (I.seen source.new) (O.seen sink.old) (O.seen sink.new) }
+    ensures letter_overflow_command { result ≡ Status.LetterOverflow
+        → command_of (map string_bytes words.now) ≡ Some Command.MonoAmps }
     ensures letter_overflow { result ≡ Status.LetterOverflow
-        → (command_of (map string_bytes words.now) ≡ Some Command.MonoAmps)
-        × Wrote (OnReady OverflowsWith)
+        → Wrote (OnReady OverflowsWith)
         (I.seen source.old) (I.seen source.new) (O.seen sink.old) (O.seen sink.new) }
     ensures write_fault { result ≡ Status.WriteFault
         → Rose (O.seen sink.old).faults (O.seen sink.new).faults }
@@ -248,7 +252,7 @@ pub fn tool_plain<I: Source, O: Sink>(
         → ¬ Rose (I.seen source.old).faults (I.seen source.new).faults
         → ¬ Rose (O.seen sink.old).faults (O.seen sink.new).faults
         → command_of (map string_bytes words.now) ≡ Some (Command.Run play)
-        → length text ≤ TEXT_LIMIT
+        → length text ≤ MOST_BYTES
         → IsSure text
         → (result ≡ Status.Ok) ⊎ (result ≡ Status.OutOfMemory) }
 {

@@ -5,11 +5,12 @@ ghost use Rattle.qm_denot.specs.Places.{has_place, HasPlace};
 ghost use Rattle.qm_zomega.specs.NumberLists.{number_at};
 
 use crate::plain::places::bit_at;
+use qm_limits::MOST_CAPACITY;
 use qm_zomega::Zw;
 
 /// Whether some non-zero numerator has this bit at a place.
 pub fn any_with(numerators: &[Zw], place: u32, bit: bool) -> bool
-    requires small { length numerators.now ≤ 2 ^ 22 }
+    requires small { length numerators.now ≤ 2 ^ MOST_CAPACITY }
     requires place { HasPlace (length numerators.now) place }
     ensures yes { result ≡ true
         → (k : ℕ) × (k < length numerators.now) × (has_place place k ≡ bit)
@@ -27,7 +28,7 @@ pub fn any_with(numerators: &[Zw], place: u32, bit: bool) -> bool
 
 /// Whether some non-zero numerator has two different bits at two places.
 pub fn any_unequal(numerators: &[Zw], one: u32, other: u32) -> bool
-    requires small { length numerators.now ≤ 2 ^ 22 }
+    requires small { length numerators.now ≤ 2 ^ MOST_CAPACITY }
     requires one { HasPlace (length numerators.now) one }
     requires other { HasPlace (length numerators.now) other }
     ensures yes { result ≡ true

@@ -6,6 +6,7 @@ ghost use Rattle.qm_denot.specs.Places.{HasPlace};
 ghost use Rattle.qm_denot.specs.Plain.{FitsRule, IsRewritten, number_after, size_after};
 
 use crate::plain::places::{bit_at, with_bit, with_bit_put_in, with_other_bit};
+use qm_limits::MOST_CAPACITY;
 use qm_zomega::Zw;
 use std::mem;
 
@@ -26,7 +27,7 @@ pub(crate) enum Rule {
 impl Rule {
     /// How many numerators the rule makes of so many.
     fn size_after(self, size: usize) -> usize
-        requires { size ≤ 2 ^ 22 }
+        requires { size ≤ 2 ^ MOST_CAPACITY }
         ensures { result ≡ size_after self size }
     {
         match self {
@@ -38,7 +39,7 @@ impl Rule {
 
     /// The numerator at `k` after the rule.
     fn entry(self, from: &[Zw], k: usize) -> Zw
-        requires small { length from.now ≤ 2 ^ 22 }
+        requires small { length from.now ≤ 2 ^ MOST_CAPACITY }
         requires fits { FitsRule self (length from.now) }
         requires within { k < size_after self (length from.now) }
         ensures { value_of result ≡ number_after self from.now k }
@@ -55,8 +56,9 @@ impl Rule {
     }
 }
 
+/// After a phase: where the bit is one, the numerator times omega^`turns`.
 fn phase_entry(from: &[Zw], turns: u8, place: u32, k: usize) -> Zw
-    requires small { length from.now ≤ 2 ^ 22 }
+    requires small { length from.now ≤ 2 ^ MOST_CAPACITY }
     requires turns { turns < 8 }
     requires place { HasPlace (length from.now) place }
     requires within { k < length from.now }
@@ -69,8 +71,9 @@ fn phase_entry(from: &[Zw], turns: u8, place: u32, k: usize) -> Zw
     }
 }
 
+/// After a flip: the numerator whose index has the other bit.
 fn flip_entry(from: &[Zw], place: u32, k: usize) -> Zw
-    requires small { length from.now ≤ 2 ^ 22 }
+    requires small { length from.now ≤ 2 ^ MOST_CAPACITY }
     requires place { HasPlace (length from.now) place }
     requires within { k < length from.now }
     ensures { value_of result ≡ number_after (Rule.Flip place) from.now k }
@@ -78,8 +81,9 @@ fn flip_entry(from: &[Zw], place: u32, k: usize) -> Zw
     from[with_other_bit(place, k)]
 }
 
+/// After a controlled-not: where the control is one, the numerator whose index has the other bit at the target.
 fn cx_entry(from: &[Zw], control: u32, target: u32, k: usize) -> Zw
-    requires small { length from.now ≤ 2 ^ 22 }
+    requires small { length from.now ≤ 2 ^ MOST_CAPACITY }
     requires control { HasPlace (length from.now) control }
     requires target { HasPlace (length from.now) target }
     requires within { k < length from.now }
@@ -92,8 +96,9 @@ fn cx_entry(from: &[Zw], control: u32, target: u32, k: usize) -> Zw
     }
 }
 
+/// After a change of sign: where both bits are one, the negative.
 fn cz_entry(from: &[Zw], one: u32, other: u32, k: usize) -> Zw
-    requires small { length from.now ≤ 2 ^ 22 }
+    requires small { length from.now ≤ 2 ^ MOST_CAPACITY }
     requires one { HasPlace (length from.now) one }
     requires other { HasPlace (length from.now) other }
     requires within { k < length from.now }
@@ -106,8 +111,9 @@ fn cz_entry(from: &[Zw], one: u32, other: u32, k: usize) -> Zw
     }
 }
 
+/// After a projection: zero where the bit isn't `m`.
 fn keep_entry(from: &[Zw], place: u32, m: bool, k: usize) -> Zw
-    requires small { length from.now ≤ 2 ^ 22 }
+    requires small { length from.now ≤ 2 ^ MOST_CAPACITY }
     requires place { HasPlace (length from.now) place }
     requires within { k < length from.now }
     ensures { value_of result ≡ number_after (Rule.Keep place m) from.now k }
@@ -118,8 +124,9 @@ fn keep_entry(from: &[Zw], place: u32, m: bool, k: usize) -> Zw
     from[k]
 }
 
+/// After a wire is taken: the numerator whose index has `m` at its place.
 fn take_entry(from: &[Zw], place: u32, m: bool, k: usize) -> Zw
-    requires small { length from.now ≤ 2 ^ 22 }
+    requires small { length from.now ≤ 2 ^ MOST_CAPACITY }
     requires place { HasPlace (length from.now) place }
     requires within { k < length from.now / 2 }
     ensures { value_of result ≡ number_after (Rule.Take place m) from.now k }
@@ -127,8 +134,9 @@ fn take_entry(from: &[Zw], place: u32, m: bool, k: usize) -> Zw
     from[with_bit_put_in(place, m, k)]
 }
 
+/// After a pair: where its two bits are equal, the numerator whose index hasn't them, and else zero.
 fn pair_entry(from: &[Zw], count: u32, k: usize) -> Zw
-    requires small { length from.now ≤ 2 ^ 22 }
+    requires small { length from.now ≤ 2 ^ MOST_CAPACITY }
     requires size { length from.now ≡ 2 ^ count }
     requires within { k < 4 * length from.now }
     ensures { value_of result ≡ number_after (Rule.Pair count) from.now k }
@@ -141,7 +149,7 @@ fn pair_entry(from: &[Zw], count: u32, k: usize) -> Zw
 
 /// Fills a list with what the rule makes of the numerators.
 fn fill(rule: Rule, from: &[Zw], into: &mut Vec<Zw>)
-    requires small { length from.now ≤ 2 ^ 22 }
+    requires small { length from.now ≤ 2 ^ MOST_CAPACITY }
     requires fits { FitsRule rule (length from.now) }
     requires room { size_after rule (length from.now) ≤ vec_capacity into.old }
     ensures rewritten { IsRewritten rule from.now into.new.items }
@@ -155,7 +163,7 @@ fn fill(rule: Rule, from: &[Zw], into: &mut Vec<Zw>)
 
 /// Replaces the numerators by what the rule makes of them.
 pub(crate) fn rewrite(rule: Rule, numerators: &mut Vec<Zw>, spare: &mut Vec<Zw>)
-    requires small { length numerators.old.items ≤ 2 ^ 22 }
+    requires small { length numerators.old.items ≤ 2 ^ MOST_CAPACITY }
     requires fits { FitsRule rule (length numerators.old.items) }
     requires room { size_after rule (length numerators.old.items) ≤ vec_capacity spare.old }
     ensures rewritten { IsRewritten rule numerators.old.items numerators.new.items }

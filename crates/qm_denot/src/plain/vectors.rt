@@ -10,11 +10,12 @@ ghost use Rattle.qm_zomega.specs.NumberLists.{AllDivisible, IsReducedList, Reduc
 
 use crate::amps::Overflow;
 use crate::plain::places::{bit_at, with_bit};
+use qm_limits::MOST_CAPACITY;
 use qm_zomega::Zw;
 
 /// What `Had` on a place makes of the numerator at `k`; nothing where a component leaves the range.
 fn had_entry(from: &[Zw], place: u32, k: usize) -> Option<Zw>
-    requires small { length from.now ≤ 2 ^ 22 }
+    requires small { length from.now ≤ 2 ^ MOST_CAPACITY }
     requires place { HasPlace (length from.now) place }
     requires within { k < length from.now }
     ensures fits { IsSome result ↔ FitsZw (had_at place (number_at from.now) k) }
@@ -31,7 +32,7 @@ fn had_entry(from: &[Zw], place: u32, k: usize) -> Option<Zw>
 ///
 /// `Overflow` comes exactly where a component of some number leaves the range.
 pub(crate) fn fill_had(from: &[Zw], into: &mut Vec<Zw>, place: u32) -> Result<(), Overflow>
-    requires small { length from.now ≤ 2 ^ 22 }
+    requires small { length from.now ≤ 2 ^ MOST_CAPACITY }
     requires place { HasPlace (length from.now) place }
     requires room { length from.now ≤ vec_capacity into.old }
     ensures size { OnOk result (length into.new.items ≡ length from.now) }
@@ -55,7 +56,7 @@ pub(crate) fn fill_had(from: &[Zw], into: &mut Vec<Zw>, place: u32) -> Result<()
 
 /// Appends as many zeros as there are numerators.
 pub(crate) fn double(numerators: &mut Vec<Zw>)
-    requires small { length numerators.old.items ≤ 2 ^ 22 }
+    requires small { length numerators.old.items ≤ 2 ^ MOST_CAPACITY }
     requires room { 2 * length numerators.old.items ≤ vec_capacity numerators.old }
     ensures size { length numerators.new.items ≡ 2 * length numerators.old.items }
     ensures numbers { (k : ℕ) → number_at numerators.new.items k

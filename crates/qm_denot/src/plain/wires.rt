@@ -5,11 +5,12 @@ ghost use Rattle.qm_denot.specs.WireLists.{Distinct, wires_of};
 
 use crate::Wire;
 use crate::plain::places::with_bit;
+use qm_limits::MOST_CAPACITY;
 
 /// The place of a live wire: its position in the list.
 pub fn place_of(live: &[Wire], w: Wire) -> u32
     requires live { Contains live.now w }
-    requires few { length live.now ≤ 22 }
+    requires few { length live.now ≤ MOST_CAPACITY }
     ensures below { result < length live.now }
     ensures first { IsFirstAt live.now result w }
 {
@@ -24,7 +25,7 @@ pub fn place_of(live: &[Wire], w: Wire) -> u32
 /// The index of the set of these wires: the sum of `2^p` over their places p.
 pub fn index_at(live: &[Wire], ones: &[Wire]) -> usize
     requires ones { All (Contains live.now) ones.now }
-    requires few { length live.now ≤ 22 }
+    requires few { length live.now ≤ MOST_CAPACITY }
     requires distinct { Distinct live.now }
     ensures value { result ≡ index_of live.now (wires_of ones.now) }
     ensures within { IsTrue (is_within (wires_of ones.now) live.now) }

@@ -8,6 +8,7 @@ use Rattle.qm_denot.specs.Protocols.{differing, letter_if}
 use Rattle.qm_denot.specs.Stores.{live_after}
 use Rattle.qm_denot.specs.WireLists.{lacks}
 use Rattle.qm_denot.specs.Weights.{operands, also}
+use Rattle.qm_limits.specs.declared.TheConstants.{BITS}
 use Rattle.qm_instr.specs.declared.Instr.{Instr}
 use Rattle.qm_instr.specs.declared.Instr.TheVariants as instr
 use Rattle.qm_instr.specs.declared.Kind.TheVariants as kind
@@ -37,6 +38,7 @@ pub record IdealTables : Type 0 where
   pub slots : ℕ → ℕ → Option Wire
   pub lanes : Lane → List Load
 
+-- the state of the ideal machine: its tables, and the circuit of the letters done
 pub record IdealState : Type 0 where
   pub tables : IdealTables
   pub circuit : Circuit
@@ -63,6 +65,7 @@ pub record Step : Type 0 where
   pub letters : List Letter
   pub acts : List IdealAct
 
+-- a line with this rule, these letters and these acts
 abbrev pub step : IdealRule → List Letter → List IdealAct → Step
 step rule letters acts = record { rule = rule; letters = letters; acts = acts }
 
@@ -142,6 +145,7 @@ abbrev pub sends_on : ℕ → Option Instr → Lane → Bool
 sends_on r None a = false
 sends_on r (Some i) a = is_on (lane_sent r i) a
 
+-- whether nothing is on a lane
 abbrev pub is_empty_lane : IdealTables → Lane → Bool
 is_empty_lane t a = nat_eq (length (t.lanes a)) 0
 
@@ -189,8 +193,9 @@ after_step p s r (Some i) =
 abbrev pub ideal_next : Programs → IdealState → ℕ → IdealState
 ideal_next p s r = after_step p s r (ideal_current p s.tables r)
 
+-- a rank before its first instruction
 abbrev pub ideal_part_at_start : RankProgram → IdealPart
-ideal_part_at_start x = record { at = 0; made = 0; bits = replicate 32 false; own = x.own }
+ideal_part_at_start x = record { at = 0; made = 0; bits = replicate BITS false; own = x.own }
 
 -- no wire, nothing on a lane, and each rank before its first instruction
 abbrev pub ideal_at_start : Programs → IdealState

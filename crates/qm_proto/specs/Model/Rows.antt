@@ -83,9 +83,24 @@ current p t r = instr_at p r (t.parts r).at
 
 -- the wire of the slot of an `undofrom` or a `reachto`, of a rank whose slots have these wires
 abbrev pub wire_offered : (ℕ → Wire) → Option Instr → Wire
+wire_offered w None = no_wire
+wire_offered w (Some (instr.Alloc q)) = no_wire
+wire_offered w (Some (instr.Free q)) = no_wire
+wire_offered w (Some (instr.Do g)) = no_wire
+wire_offered w (Some (instr.Measure q b)) = no_wire
+wire_offered w (Some (instr.Set b v)) = no_wire
+wire_offered w (Some (instr.Xor b c)) = no_wire
+wire_offered w (Some (instr.When b g)) = no_wire
+wire_offered w (Some (instr.SendBit b to tag)) = no_wire
+wire_offered w (Some (instr.RecvBit b from tag)) = no_wire
+wire_offered w (Some (instr.CopyTo q to tag)) = no_wire
+wire_offered w (Some (instr.CopyFrom q from tag)) = no_wire
+wire_offered w (Some (instr.UndoTo q to tag)) = no_wire
 wire_offered w (Some (instr.UndoFrom q from tag)) = w q
+wire_offered w (Some (instr.MoveTo q to tag)) = no_wire
+wire_offered w (Some (instr.MoveFrom q from tag)) = no_wire
 wire_offered w (Some (instr.ReachTo q to tag)) = w q
-wire_offered w _ = no_wire
+wire_offered w (Some (instr.ReachFrom q from tag)) = no_wire
 
 -- the wire of the `undofrom` at which rank d stands
 abbrev pub source_wire : Programs → Tables → ℕ → Wire

@@ -26,6 +26,7 @@ abbrev pub row_in : Programs → Tables → ℕ → Option Instr → Option Row
 row_in p t r None = None
 row_in p t r (Some i) = slice_get (rows p t r i) (t.parts r).stage
 
+-- the line of rank r's next event, where it has an event left
 abbrev pub row_next : Programs → Tables → ℕ → Option Row
 row_next p t r = row_in p t r (current p t r)
 
@@ -54,6 +55,7 @@ holds p t (PairRoom a) = nat_lt (halves t a.to + 1) (rank_of p a.to).buffer || i
 holds p t (Engaged a) = is_wanted p t a
 holds p t (Filled a) = is_some (front t a).bits
 
+-- whether what a line waits for is so; where there is no line, nothing may happen
 abbrev pub row_holds : Programs → Tables → Option Row → Bool
 row_holds p t None = false
 row_holds p t (Some w) = holds p t w.rule
@@ -86,6 +88,7 @@ abbrev pub NoneFails : Circuit → List Check → Type 0
 NoneFails g [] = Unit {0}
 NoneFails g (k ∷ ks) = (¬ (Fails g k)) × NoneFails g ks
 
+-- the tests of a line, where there is one
 abbrev pub row_checks : Option Row → List Check
 row_checks None = []
 row_checks (Some w) = list_of w.checks
@@ -107,10 +110,12 @@ abbrev pub events_at : Option Instr → ℕ
 events_at None = 0
 events_at (Some i) = events_of i
 
+-- the tables after the acts of a line, with rank r past the event; its instruction has n of them
 abbrev pub row_done : ℕ → ℕ → Option Row → Tables → Tables
 row_done n r None t = t
 row_done n r (Some w) t = let u = all_done r (list_of w.acts) t in with_part u r (moved_on n (u.parts r))
 
+-- the letters that the acts of a line do
 abbrev pub row_letters : ℕ → Option Row → Tables → List Letter
 row_letters r None t = []
 row_letters r (Some w) t = all_letters r (list_of w.acts) t

@@ -1,6 +1,7 @@
 -- Schedules: what they leave, which of them are legal, and how a run ends
 use Rattle.std.specs.Prelude.{◌≡◌, ℕ, ◌<◌, ◌⊎◌, true, false, List, [], ◌∷◌, None, length, map, fold, sum_by, replicate}
 use Rattle.qm_denot.specs.Wires.{no_wires}
+use Rattle.qm_limits.specs.declared.TheConstants.{BITS}
 use Rattle.qm_instr.specs.Counts.{protocol_of}
 use Rattle.qm_instr.specs.Programs.{Programs, RankProgram, rank_of}
 use Rattle.qm_proto.specs.declared.Cause.{Cause}
@@ -10,7 +11,16 @@ use Rattle.qm_proto.specs.Model.Runs.{has_event, enabled, IsRefused, IsAllowed, 
 -- a rank before its first event
 abbrev pub part_at_start : RankProgram → Part
 part_at_start x =
-    record { at = 0; stage = 0; made = 0; bits = replicate 32 false; own = x.own; protocol = x.protocol; taken = no_parcel; first = false }
+    record {
+      at = 0;
+      stage = 0;
+      made = 0;
+      bits = replicate BITS false;
+      own = x.own;
+      protocol = x.protocol;
+      taken = no_parcel;
+      first = false;
+    }
 
 -- no wire, no parcel, and each rank before its first event
 abbrev pub tables_at_start : Programs → Tables
@@ -24,6 +34,7 @@ tables_at_start p =
       lanes = λ a. [];
     }
 
+-- the tables at the start, with the empty circuit
 abbrev pub state_at_start : Programs → State
 state_at_start p = record { tables = tables_at_start p; circuit = [] }
 
@@ -42,6 +53,7 @@ abbrev pub IsLegalFrom : Programs → State → List ℕ → Type 0
 IsLegalFrom p s [] = Unit {0}
 IsLegalFrom p s (r ∷ rs) = MayStep p s r × IsLegalFrom p (next p s r) rs
 
+-- a schedule is legal: each entry's rank may have its next event when its turn comes
 unfoldable pub IsLegal : Programs → List ℕ → Type 0
 IsLegal p schedule = IsLegalFrom p (state_at_start p) schedule
 
@@ -94,13 +106,15 @@ abbrev pub IsFirstSoFarFrom : Programs → State → List ℕ → Type 0
 IsFirstSoFarFrom p s [] = Unit {0}
 IsFirstSoFarFrom p s (r ∷ rs) = IsLowestEnabled p s.tables r × IsAllowed p s r × IsFirstSoFarFrom p (next p s r) rs
 
+-- the schedule takes the lowest enabled rank each time, from the start on; it need not go on to the run's end
 unfoldable pub IsFirstSoFar : Programs → List ℕ → Type 0
 IsFirstSoFar p schedule = IsFirstSoFarFrom p (state_at_start p) schedule
 
--- the programs with every buffer of size 1
+-- a rank's program with a buffer of size 1
 abbrev pub with_buffer_of_one : RankProgram → RankProgram
 with_buffer_of_one x = record x { buffer = 1 }
 
+-- the programs with every buffer of size 1
 abbrev pub with_buffers_of_one : Programs → Programs
 with_buffers_of_one p = record p { ranks = map with_buffer_of_one p.ranks }
 

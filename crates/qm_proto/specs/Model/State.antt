@@ -90,6 +90,7 @@ front t a = slice_index_or (t.lanes a) 0 no_parcel
 abbrev pub wire_of : Parcel → Wire
 wire_of x = unwrap_or x.wire no_wire
 
+-- its first bit, and its second one; a parcel without bits shows zeros
 abbrev pub first_bit : Parcel → Bool
 first_bit x = (unwrap_or x.bits (false, false)).0
 

@@ -2,17 +2,17 @@
 use Rattle.std.proofs.Common.{◌≡◌, ◌≢◌, ℕ, ◌+◌, ◌<◌, ◌≤◌, nat_eq, nat_lt, Bool, true, false, ◌&&◌, List, [], ◌∷◌, ◌++◌, length, drop, Option, Some, None, is_some, slice_get, Contains, refl, sym, ap, ap₂, subst, ◌∙◌, arith, ⊎_elim}
 use Rattle.std.proofs.lemmas.Bool.{cases_lt, and_parts, eqb-true, eq-eqb}
 use Rattle.std.proofs.lemmas.List.{get_or_past, nil_from_length}
-use Rattle.std.proofs.lemmas.Option.{same_Some}
 use Rattle.qm_denot.specs.Parcels.{filled}
 use Rattle.qm_instr.specs.declared.Instr.{Instr}
 use Rattle.qm_instr.specs.declared.Instr.TheVariants as instr
 use Rattle.qm_instr.specs.declared.Kind.TheVariants as kind
 use Rattle.qm_instr.specs.declared.Lane.{Lane}
 use Rattle.qm_instr.specs.Counts.{events_of}
+use Rattle.qm_instr.proofs.LaneOrder.{same_lane}
 use Rattle.qm_instr.specs.Lanes.{lane}
 use Rattle.qm_instr.specs.Programs.{Programs, RankProgram, IsInRange, idle_rank}
 use Rattle.qm_check.specs.Checks.{IsReady}
-use Rattle.qm_check.specs.Messages.{lane_posted}
+use Rattle.qm_check.specs.Messages.{posts_on}
 use Rattle.qm_check.specs.Operands.{partner_of}
 use Rattle.qm_check.proofs.Faultless.{IsStep, step_of}
 use Rattle.qm_denot.specs.declared.Parcel.{Parcel}
@@ -52,13 +52,13 @@ pub record IsStood (p : Programs) (t : Tables) : Type 0 where
   pub selfless : (c : Lane) → c.from ≡ c.to → t.lanes c ≡ []
 
 -- ---- no rank posts to itself
-posted_partner : (r : ℕ) (i : Instr) (a : Lane) → lane_posted r i ≡ Some a → partner_of i ≡ Some a.to
-posted_partner r (instr.SendBit b to tag) a e = ap (λ (l : Lane). Some l.to) (same_Some _ _ e)
-posted_partner r (instr.CopyTo b to tag) a e = ap (λ (l : Lane). Some l.to) (same_Some _ _ e)
-posted_partner r (instr.UndoTo b to tag) a e = ap (λ (l : Lane). Some l.to) (same_Some _ _ e)
-posted_partner r (instr.MoveTo b to tag) a e = ap (λ (l : Lane). Some l.to) (same_Some _ _ e)
-posted_partner r (instr.ReachTo b to tag) a e = ap (λ (l : Lane). Some l.to) (same_Some _ _ e)
-posted_partner r (instr.ReachFrom b from tag) a e = ap (λ (l : Lane). Some l.to) (same_Some _ _ e)
+posted_partner : (r : ℕ) (i : Instr) (a : Lane) → posts_on r i a ≡ true → partner_of i ≡ Some a.to
+posted_partner r (instr.SendBit b to tag) a e = ap (λ (l : Lane). Some l.to) (same_lane (lane r to kind.Bit tag) a e)
+posted_partner r (instr.CopyTo b to tag) a e = ap (λ (l : Lane). Some l.to) (same_lane (lane r to kind.Copy tag) a e)
+posted_partner r (instr.UndoTo b to tag) a e = ap (λ (l : Lane). Some l.to) (same_lane (lane r to kind.Undo tag) a e)
+posted_partner r (instr.MoveTo b to tag) a e = ap (λ (l : Lane). Some l.to) (same_lane (lane r to kind.Move tag) a e)
+posted_partner r (instr.ReachTo b to tag) a e = ap (λ (l : Lane). Some l.to) (same_lane (lane r to kind.Reach tag) a e)
+posted_partner r (instr.ReachFrom b from tag) a e = ap (λ (l : Lane). Some l.to) (same_lane (lane r from kind.Back tag) a e)
 posted_partner r _ a e = cc
 
 module _ (p : Programs) (t : Tables) (r : ℕ) (i : Instr) (s : ℕ) (next : IsNext p t r i s)

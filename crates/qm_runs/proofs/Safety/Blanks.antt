@@ -19,7 +19,7 @@ use Rattle.qm_check.specs.Checks.{IsReady}
 use Rattle.qm_proto.specs.declared.Act.{Act}
 use Rattle.qm_proto.specs.declared.Act.TheVariants.{Fresh, Twin, Apply, SlotOut, NearOut, FarOut, Settle, Posts, Fills, Receives, OwnUsed, ProtocolUsed, FirstKept, BitSet}
 use Rattle.qm_proto.specs.Model.Acts.{list_of, done, all_done, letters_of, all_letters}
-use Rattle.qm_proto.specs.Model.May.{Limits, MayLetter, MayDo, AllMay, limits_after}
+use Rattle.qm_proto.specs.May.{Limits, MayLetter, MayDo, AllMay, limits_after}
 use Rattle.qm_proto.specs.Model.Places.{InSlot, NearOf, FarOf, IsPlaced, IsOwn}
 use Rattle.qm_proto.specs.Model.Runs.{next, next_tables, next_letters, row_letters}
 use Rattle.qm_proto.specs.Model.Schedules.{tables_at_start, replay, IsLegal, MayStep}

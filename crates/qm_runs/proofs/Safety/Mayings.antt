@@ -7,7 +7,7 @@ use Rattle.qm_check.proofs.Faultless.{IsStep, step_of}
 use Rattle.qm_proto.specs.declared.Act.{Act}
 use Rattle.qm_proto.specs.declared.Act.TheVariants.{Fresh, Twin, Posts}
 use Rattle.qm_proto.specs.Model.Acts.{list_of}
-use Rattle.qm_proto.specs.Model.May.{Limits, AllMay}
+use Rattle.qm_proto.specs.May.{Limits, AllMay}
 use Rattle.qm_proto.specs.Model.Rows.{current}
 use Rattle.qm_proto.specs.Model.Runs.{enabled, row_next}
 use Rattle.qm_proto.specs.Model.Schedules.{replay}

@@ -19,7 +19,7 @@ use Rattle.qm_check.proofs.Faultless.{FindsSlots, before}
 use Rattle.qm_proto.specs.declared.Act.{Act}
 use Rattle.qm_proto.specs.declared.Act.TheVariants.{Fresh, Twin, Apply, SlotOut, NearOut, FarOut, Settle, Posts, Fills, Receives, OwnUsed, ProtocolUsed, FirstKept, BitSet}
 use Rattle.qm_proto.specs.Model.Acts.{list_of, done}
-use Rattle.qm_proto.specs.Model.May.{Limits, MayDo, AllMay, limits_after}
+use Rattle.qm_proto.specs.May.{Limits, MayDo, AllMay, limits_after}
 use Rattle.qm_proto.specs.Model.Rows.{current}
 use Rattle.qm_proto.specs.Model.Schedules.{replay}
 use Rattle.qm_proto.specs.Model.State.{Tables, front}

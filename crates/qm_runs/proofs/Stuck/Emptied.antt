@@ -16,7 +16,7 @@ use Rattle.qm_instr.proofs.LaneOrder.{same_lane, lane_turned}
 use Rattle.qm_check.specs.declared.Fault.{Fault}
 use Rattle.qm_check.specs.declared.Fault.TheVariants as fault
 use Rattle.qm_check.specs.Checks.{IsReady, Between}
-use Rattle.qm_check.specs.Messages.{lane_posted, is_back, lane_sends, lane_receives}
+use Rattle.qm_check.specs.Messages.{posts_on, is_back, lane_sends, lane_receives}
 use Rattle.qm_proto.specs.Model.State.{Tables}
 use Rattle.qm_proto.specs.declared.Row.{Row}
 use Rattle.qm_proto.specs.Model.Runs.{row_next, next}
@@ -43,7 +43,7 @@ abbrev all_gets : Lane → ℕ → Instr → ℕ
 all_gets c r i = sum_by (λ (h : Shape). gets c h.moves) (shapes r i)
 
 module _ (c : Lane) (r : ℕ) where
-  puts_are : (i : Instr) → all_puts c r i ≡ bit (is_on (lane_posted r i) c)
+  puts_are : (i : Instr) → all_puts c r i ≡ bit (posts_on r i c)
   puts_are (instr.SendBit b to tag) = flag (λ d. 0 + (bit d + 0)) refl refl (is_lane c (lane r to kind.Bit tag)) _ (lane_turned c (lane r to kind.Bit tag))
   puts_are (instr.CopyTo q to tag) = flag (λ d. 0 + (bit d + 0) + 0 + 0) refl refl (is_lane c (lane r to kind.Copy tag)) _ (lane_turned c (lane r to kind.Copy tag))
   puts_are (instr.UndoTo q to tag) = flag (λ d. 0 + 0 + (bit d + 0)) refl refl (is_lane c (lane r to kind.Undo tag)) _ (lane_turned c (lane r to kind.Undo tag))
@@ -106,7 +106,7 @@ module _ (c : Lane) (e : c.kind ≡ kind.Back) (r : ℕ) where
   not_answered : (a : Lane) → is_kind kind.Reach a.kind ≡ false → is_lane a (answered c) ≡ false
   not_answered a k = sym (lane_turned (answered c) a) ∙ differ (answered c) a k
 
-  puts_same : (i : Instr) → is_on (lane_posted r i) c ≡ is_on (lane_received r i) (answered c)
+  puts_same : (i : Instr) → posts_on r i c ≡ is_on (lane_received r i) (answered c)
   puts_same (instr.SendBit b to tag) = not_same (lane r to kind.Bit tag) refl
   puts_same (instr.CopyTo q to tag) = not_same (lane r to kind.Copy tag) refl
   puts_same (instr.UndoTo q to tag) = not_same (lane r to kind.Undo tag) refl
@@ -123,7 +123,7 @@ module _ (c : Lane) (e : c.kind ≡ kind.Back) (r : ℕ) where
   puts_back : (i : Instr) → all_puts c r i ≡ bit (is_on (lane_received r i) (answered c))
   puts_back i = puts_are c r i ∙ ap bit (puts_same i)
 
-  gets_back : (i : Instr) → all_gets c r i ≡ bit (is_on (lane_posted r i) (answered c))
+  gets_back : (i : Instr) → all_gets c r i ≡ bit (posts_on r i (answered c))
   gets_back (instr.SendBit b to tag) = sym (ap bit (not_answered (lane r to kind.Bit tag) refl))
   gets_back (instr.CopyTo q to tag) = sym (ap bit (not_answered (lane r to kind.Copy tag) refl))
   gets_back (instr.UndoTo q to tag) = sym (ap bit (not_answered (lane r to kind.Undo tag) refl))
@@ -171,7 +171,7 @@ module _ (p : Programs) (ready : IsReady p) (t : Tables) (n : ℕ → ℕ) (trac
 
   even_front : (c : Lane) → is_back c.kind ≡ false → sum_by (all_puts c c.from) (lists p c.from) ≡ sum_by (all_gets c c.to) (lists p c.to)
   even_front c front =
-      sum_count (all_puts c c.from) (λ i. is_on (lane_posted c.from i) c) (puts_are c c.from) (lists p c.from)
+      sum_count (all_puts c c.from) (λ i. posts_on c.from i c) (puts_are c c.from) (lists p c.from)
       ∙ sends_met p ready c front
       ∙ sym (sum_count (all_gets c c.to) (λ i. is_on (lane_received c.to i) c) (gets_are c c.to front) (lists p c.to))
 
@@ -179,7 +179,7 @@ module _ (p : Programs) (ready : IsReady p) (t : Tables) (n : ℕ → ℕ) (trac
   even c kind.Back e =
       sum_count (all_puts c c.from) (λ i. is_on (lane_received c.from i) (answered c)) (puts_back c e c.from) (lists p c.from)
       ∙ sym (sends_met p ready (answered c) refl)
-      ∙ sym (sum_count (all_gets c c.to) (λ i. is_on (lane_posted c.to i) (answered c)) (gets_back c e c.to) (lists p c.to))
+      ∙ sym (sum_count (all_gets c c.to) (λ i. posts_on c.to i (answered c)) (gets_back c e c.to) (lists p c.to))
   even c kind.Bit e = even_front c (ap is_back e)
   even c kind.Copy e = even_front c (ap is_back e)
   even c kind.Move e = even_front c (ap is_back e)

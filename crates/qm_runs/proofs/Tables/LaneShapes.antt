@@ -14,7 +14,7 @@ use Rattle.qm_instr.specs.Counts.{events_of}
 use Rattle.qm_instr.specs.Lanes.{lane, lane_sent, is_on}
 use Rattle.qm_instr.specs.Programs.{Programs, rank_of}
 use Rattle.qm_instr.proofs.LaneOrder.{same_lane, lane_itself}
-use Rattle.qm_check.specs.Messages.{lane_posted, posts_in}
+use Rattle.qm_check.specs.Messages.{posts_on, posts_in}
 use Rattle.qm_check.specs.Operands.{partner_of}
 use Rattle.qm_check.proofs.Faultless.{IsStep}
 use Rattle.qm_denot.specs.declared.Parcel.{Parcel}
@@ -64,7 +64,7 @@ module _ (p : Programs) (t : Tables) (r : ℕ) (i : Instr) (s : ℕ) (w : Row) w
   abbrev pub IsLaneCase : LaneCase → Type 0
   IsLaneCase Still = (follows (has_posted (middle_of i) s) (posted_after i s) ≡ true) × (follows (open_after i s) (is_open (middle_of i) s) ≡ true)
   IsLaneCase (Puts a x) =
-      (a.from ≡ r) × (lane_posted r i ≡ Some a) × (has_posted (middle_of i) s ≡ false) × (posted_after i s ≡ true)
+      (a.from ≡ r) × (posts_on r i a ≡ true) × (has_posted (middle_of i) s ≡ false) × (posted_after i s ≡ true)
       × ((open_after i s ≡ true) → (lane_sent r i ≡ Some a) × (x.bits ≡ None))
       × (is_half a.kind ≡ true → HasWire x) × CarriesNew t r x
   IsLaneCase (Tells a b) = (a.from ≡ r) × (follows (has_posted (middle_of i) s) (posted_after i s) ≡ true) × (open_after i s ≡ false)
@@ -117,25 +117,25 @@ module _ (p : Programs) (t : Tables) (r : ℕ) where
   table (instr.Xor b c) = (still refl refl refl, tt)
   table (instr.When b g) = (still (lanes_if r (bit_of t r b) (gate_letter (wire_in t r) g) t) refl refl, tt)
   table (instr.SendBit b to tag) =
-      (puts (lane r to kind.Bit tag) (told (bit_of t r b)) refl (refl, refl, refl, refl, (λ e. never e), (λ e. cc), told_new (bit_of t r b)), tt)
+      (puts (lane r to kind.Bit tag) (told (bit_of t r b)) refl (refl, lane_itself (lane r to kind.Bit tag), refl, refl, (λ e. never e), (λ e. cc), told_new (bit_of t r b)), tt)
   table (instr.RecvBit b from tag) = (takes (lane from r kind.Bit tag) refl (refl, refl, refl, refl, refl), tt)
   table (instr.CopyTo q to tag) =
       let a = lane r to kind.Copy tag in (
-        puts a (half (far_made t r)) refl (refl, refl, refl, refl, (λ e. (refl, refl)), (λ e. refl), half_new),
+        puts a (half (far_made t r)) refl (refl, lane_itself a, refl, refl, (λ e. (refl, refl)), (λ e. refl), half_new),
         (still refl refl refl, (tells a (protocol_next t r, false) refl (refl, refl, refl), tt)),
       )
   table (instr.CopyFrom q from tag) =
       let x = (t.parts r).taken in
       (takes (lane from r kind.Copy tag) refl (refl, refl, refl, refl, refl), (still (lanes_if r (first_bit x) (Flip (wire_of x)) t) refl refl, tt))
   table (instr.UndoTo q to tag) =
-      (still refl refl refl, (puts (lane r to kind.Undo tag) (told (protocol_next t r)) refl (refl, refl, refl, refl, (λ e. never e), (λ e. cc), told_new (protocol_next t r)), tt))
+      (still refl refl refl, (puts (lane r to kind.Undo tag) (told (protocol_next t r)) refl (refl, lane_itself (lane r to kind.Undo tag), refl, refl, (λ e. never e), (λ e. cc), told_new (protocol_next t r)), tt))
   table (instr.UndoFrom q from tag) = (
     takes (lane from r kind.Undo tag) refl (refl, refl, refl, refl, refl),
     (still (lanes_if r (first_bit (t.parts r).taken) (Phase 4 (wire_in t r q)) t) refl refl, tt),
   )
   table (instr.MoveTo q to tag) =
       let a = lane r to kind.Move tag in (
-        puts a (half (far_made t r)) refl (refl, refl, refl, refl, (λ e. (refl, refl)), (λ e. refl), half_new),
+        puts a (half (far_made t r)) refl (refl, lane_itself a, refl, refl, (λ e. (refl, refl)), (λ e. refl), half_new),
         (
           still refl refl refl,
           (
@@ -157,7 +157,7 @@ module _ (p : Programs) (t : Tables) (r : ℕ) where
       )
   table (instr.ReachTo q to tag) =
       let a = lane r to kind.Reach tag in (
-        puts a (half (far_made t r)) refl (refl, refl, refl, refl, (λ e. (refl, refl)), (λ e. refl), half_new),
+        puts a (half (far_made t r)) refl (refl, lane_itself a, refl, refl, (λ e. (refl, refl)), (λ e. refl), half_new),
         (
           still refl refl refl,
           (
@@ -178,7 +178,7 @@ module _ (p : Programs) (t : Tables) (r : ℕ) where
             still refl refl refl,
             (
               still refl refl refl,
-              (puts (lane r from kind.Back tag) (told (protocol_next t r)) refl (refl, refl, refl, refl, (λ e. never e), (λ e. cc), told_new (protocol_next t r)), tt),
+              (puts (lane r from kind.Back tag) (told (protocol_next t r)) refl (refl, lane_itself (lane r from kind.Back tag), refl, refl, (λ e. never e), (λ e. cc), told_new (protocol_next t r)), tt),
             ),
           ),
         ),
@@ -279,13 +279,13 @@ module _ (p : Programs) (t : Tables) (r : ℕ) (well : (b : Lane) → IsLaneWell
       let is = (rank_of p r).instructions in
       let old = own_lane p t r well step i s next to d tag in
       let few : length (t.lanes b) ≤ posts_in r b (take n is) = subst (λ c. length (t.lanes b) ≤ posts_in r b (take (cond c (n + 1) n) is)) before old.few in
-      let more : posts_in r b (take (n + 1) is) ≡ posts_in r b (take n is) + cond (is_on (lane_posted r i) b) 1 0 = at.posts b in
+      let more : posts_in r b (take (n + 1) is) ≡ posts_in r b (take n is) + cond (posts_on r i b) 1 0 = at.posts b in
       own_after to d tag
       (rw (here b, later)
       (by_lane (λ xs. length xs ≤ posts_in r b (take (n + 1) is)) t.lanes a (t.lanes a ++ x ∷ []) b
       (λ e.
       let l : length (t.lanes b) ≡ length (t.lanes a) = ap (λ c. length (t.lanes c)) e in
-      let one : cond (is_on (lane_posted r i) b) 1 0 ≡ 1 = ap (λ o. let j : ℕ = cond (is_on o b) 1 0 in j) (posts ∙ ap (λ (c : Lane). Some c) (sym e)) ∙ ap (λ (c : Bool). let j : ℕ = cond c 1 0 in j) (lane_itself b) in
+      let one : cond (posts_on r i b) 1 0 ≡ 1 = ap (λ (c : Bool). let j : ℕ = cond c 1 0 in j) (ap (posts_on r i) e ∙ posts) in
       omega (arith, length-append (t.lanes a) (x ∷ [])))
       (λ ne. omega arith)))
       (λ e on. rw (here b)

@@ -26,7 +26,7 @@ use Rattle.qm_instr.specs.Programs.{Programs, rank_of, IsInRange}
 use Rattle.qm_instr.proofs.Ranges.{rank_of-in_range}
 use Rattle.qm_instr.proofs.LaneOrder.{same_lane, lane_itself}
 use Rattle.qm_check.specs.Checks.{IsReady}
-use Rattle.qm_check.specs.Messages.{lane_posted, lane_sends, posts_in}
+use Rattle.qm_check.specs.Messages.{posts_on, lane_sends, posts_in}
 use Rattle.qm_check.specs.Operands.{gate_uses, partner_of}
 use Rattle.qm_check.specs.Slots.{full_after}
 use Rattle.qm_check.proofs.Faultless.{IsStep, FindsSlots, before, posts-take-le, step_of}
@@ -41,7 +41,7 @@ use Rattle.qm_proto.specs.declared.Act.TheVariants.{Fresh, Twin, Posts, Receives
 use Rattle.qm_proto.specs.Model.Rows.{instr_at, current, rows, half, letter, gate_letter, one_letter, letter_checks, few_if, source_wire, wire_offered}
 use Rattle.qm_proto.specs.Model.Runs.{holds, receives_on}
 use Rattle.qm_proto.specs.Model.Places.{Place, InSlot, NearOf, FarOf, IsPlaced, rank_at, IsOwn}
-use Rattle.qm_proto.specs.Model.May.{Limits, AreTwo, AreOwnTwo, MayLetter, MayFresh, MayTwin, MaySlotOut, MayHalfOut, AllMay, AllMayCheck}
+use Rattle.qm_proto.specs.May.{Limits, AreTwo, AreOwnTwo, MayLetter, MayFresh, MayTwin, MaySlotOut, MayHalfOut, AllMay, AllMayCheck}
 use Rattle.qm_proto.specs.Model.Tidy.{IsTidy, IsInHand}
 use Rattle.qm_proto.proofs.Changes.{with_at-here}
 use Rattle.qm_proto.proofs.TidyActs.{only_at, far_made_absent, near_made_absent, settle_may, tidy_part, tidy_done, received_in_hand}
@@ -224,7 +224,7 @@ module _ (p : Programs) (t : Tables) (r : ℕ) (ready : IsReady p) (ranges : IsI
   far_out f far = record { only = only_at used f (FarOf r) tidy_used far; letter = room.letters }
 
   -- ---- lanes
-  post_room : (i : Instr) (k : ℕ) → IsNext p t r i k → (to : ℕ) (d : Kind) (tag : ℕ) → has_posted (middle_of i) k ≡ false → lane_posted r i ≡ Some (lane r to d tag)
+  post_room : (i : Instr) (k : ℕ) → IsNext p t r i k → (to : ℕ) (d : Kind) (tag : ℕ) → has_posted (middle_of i) k ≡ false → posts_on r i (lane r to d tag) ≡ true
       → length (t.lanes (lane r to d tag)) < s.parcels (lane r to d tag)
   post_room i k next to d tag not_yet posts =
       let a = lane r to d tag in
@@ -233,8 +233,8 @@ module _ (p : Programs) (t : Tables) (r : ℕ) (ready : IsReady p) (ranges : IsI
       let at = step i next.read in
       let few : length (t.lanes a) ≤ posts_in r a (take n is) =
       subst (λ c. length (t.lanes a) ≤ posts_in r a (take (cond c (n + 1) n) is)) not_yet (own_lane p t r well.lanes step i k next to d tag).few in
-      let more : posts_in r a (take (n + 1) is) ≡ posts_in r a (take n is) + cond (is_on (lane_posted r i) a) 1 0 = at.posts a in
-      let one : cond (is_on (lane_posted r i) a) 1 0 ≡ (let j : ℕ = 1 in j) = ap (λ o. let j : ℕ = cond (is_on o a) 1 0 in j) posts ∙ ap (λ (c : Bool). let j : ℕ = cond c 1 0 in j) (lane_itself a) in
+      let more : posts_in r a (take (n + 1) is) ≡ posts_in r a (take n is) + cond (posts_on r i a) 1 0 = at.posts a in
+      let one : cond (posts_on r i a) 1 0 ≡ (let j : ℕ = 1 in j) = ap (λ (c : Bool). let j : ℕ = cond c 1 0 in j) posts in
       omega (arith, posts-take-le r a is (n + 1), room.parcels a)
 
   fillable : (i : Instr) (k : ℕ) → IsNext p t r i k → (to : ℕ) (d : Kind) (tag : ℕ) → is_open (middle_of i) k ≡ true → lane_sent r i ≡ Some (lane r to d tag)
@@ -245,7 +245,7 @@ module _ (p : Programs) (t : Tables) (r : ℕ) (ready : IsReady p) (ranges : IsI
 
   -- ---- the shapes of more than one line
   pair_may : (i : Instr) → IsNext p t r i 0 → (to : ℕ) (d : Kind) (tag : ℕ) → partner_of i ≡ Some to → is_half d ≡ true → holds p t (PairRoom (lane r to d tag)) ≡ true
-      → has_posted (middle_of i) 0 ≡ false → lane_posted r i ≡ Some (lane r to d tag) → 2 ≤ s.wires
+      → has_posted (middle_of i) 0 ≡ false → posts_on r i (lane r to d tag) ≡ true → 2 ≤ s.wires
       → AllMay s r (Twin to ∷ Posts (lane r to d tag) (half (far_made t r)) ∷ []) t
   pair_may i next to d tag names carries free not_yet posts wires =
       let a = lane r to d tag in
@@ -363,7 +363,7 @@ module _ (p : Programs) (t : Tables) (r : ℕ) (ready : IsReady p) (ranges : IsI
       )
   table (instr.Set b v) = (record { may = λ next wires. ((All-head (λ c. c < 32) b [] (operands (instr.Set b v) next.read).bits, tt), tt) }, tt)
   table (instr.Xor b c) = (record { may = λ next wires. ((All-head (λ c. c < 32) b (c ∷ []) (operands (instr.Xor b c) next.read).bits, tt), tt) }, tt)
-  table (instr.SendBit b to tag) = (record { may = λ next wires. ((post_room (instr.SendBit b to tag) 0 next to kind.Bit tag refl refl, tt), tt) }, tt)
+  table (instr.SendBit b to tag) = (record { may = λ next wires. ((post_room (instr.SendBit b to tag) 0 next to kind.Bit tag refl (lane_itself (lane r to kind.Bit tag)), tt), tt) }, tt)
   table (instr.RecvBit b from tag) =
       let a = lane from r kind.Bit tag in (
         record {
@@ -374,7 +374,7 @@ module _ (p : Programs) (t : Tables) (r : ℕ) (ready : IsReady p) (ranges : IsI
       )
   table (instr.CopyTo q to tag) =
       let i = instr.CopyTo q to tag in (
-        record { may = λ next wires. (pair_may i next to kind.Copy tag refl refl next.holds refl refl wires, tt) },
+        record { may = λ next wires. (pair_may i next to kind.Copy tag refl refl next.holds refl (lane_itself (lane r to kind.Copy tag)) wires, tt) },
         (
           record { may = λ next wires. (((near_apart q (full_at i 1 q next refl (step i next.read).slots) (here i 1 next).near_so, room.letters), tt), tt) },
           (record { may = λ next wires. ((outcome i 2 next refl, (near_out (here i 2 next).near_so, (fillable i 2 next to kind.Copy tag refl refl, tt))), tt) }, tt),
@@ -401,7 +401,7 @@ module _ (p : Programs) (t : Tables) (r : ℕ) (ready : IsReady p) (ranges : IsI
           record {
             may = λ next wires.
                 let at = step i next.read in
-                ((outcome i 1 next refl, (slot_out q at.few (full_at i 1 q next refl at.slots), (post_room i 1 next to kind.Undo tag refl refl, tt))), tt);
+                ((outcome i 1 next refl, (slot_out q at.few (full_at i 1 q next refl at.slots), (post_room i 1 next to kind.Undo tag refl (lane_itself (lane r to kind.Undo tag)), tt))), tt);
           },
           tt,
         ),
@@ -419,7 +419,7 @@ module _ (p : Programs) (t : Tables) (r : ℕ) (ready : IsReady p) (ranges : IsI
       )
   table (instr.MoveTo q to tag) =
       let i = instr.MoveTo q to tag in (
-        record { may = λ next wires. (pair_may i next to kind.Move tag refl refl next.holds refl refl wires, tt) },
+        record { may = λ next wires. (pair_may i next to kind.Move tag refl refl next.holds refl (lane_itself (lane r to kind.Move tag)) wires, tt) },
         (
           record { may = λ next wires. (((near_apart q (full_at i 1 q next refl (step i next.read).slots) (here i 1 next).near_so, room.letters), tt), tt) },
           (
@@ -453,7 +453,7 @@ module _ (p : Programs) (t : Tables) (r : ℕ) (ready : IsReady p) (ranges : IsI
       )
   table (instr.ReachTo q to tag) =
       let i = instr.ReachTo q to tag in (
-        record { may = λ next wires. (pair_may i next to kind.Reach tag refl refl next.holds refl refl wires, tt) },
+        record { may = λ next wires. (pair_may i next to kind.Reach tag refl refl next.holds refl (lane_itself (lane r to kind.Reach tag)) wires, tt) },
         (
           record { may = λ next wires. (((near_apart q (full_at i 1 q next refl (step i next.read).slots) (here i 1 next).near_so, room.letters), tt), tt) },
           (
@@ -485,7 +485,7 @@ module _ (p : Programs) (t : Tables) (r : ℕ) (ready : IsReady p) (ranges : IsI
               (
                 record {
                   may = λ next wires.
-                      ((outcome i 4 next refl, (far_out f (hand i 4 next refl refl).half, (post_room i 4 next from kind.Back tag refl refl, tt))), tt);
+                      ((outcome i 4 next refl, (far_out f (hand i 4 next refl refl).half, (post_room i 4 next from kind.Back tag refl (lane_itself (lane r from kind.Back tag)), tt))), tt);
                 },
                 tt,
               ),

@@ -21,5 +21,6 @@ pub record EndsAsIdeal (p : Programs) (schedule : List ℕ) : Type 0 where
   pub nonzero : IsNonzero (replay p schedule).circuit
   pub ideal_nonzero : IsNonzero (ideal_replay p (ideal_of p schedule)).circuit
 
+-- each complete schedule of programs that have no fault ends as its ideal run does
 abbrev pub CompleteLaw : Type 0
 CompleteLaw = (p : Programs) → IsReady p → IsInRange p → (schedule : List ℕ) → IsComplete p schedule → EndsAsIdeal p schedule

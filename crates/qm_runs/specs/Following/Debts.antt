@@ -9,6 +9,7 @@ use Rattle.qm_instr.specs.declared.Instr.TheVariants as instr
 use Rattle.qm_instr.specs.declared.Kind.{Kind}
 use Rattle.qm_instr.specs.declared.Kind.TheVariants as kind
 use Rattle.qm_instr.specs.declared.Lane.{Lane}
+use Rattle.qm_instr.specs.Lanes.{lane}
 use Rattle.qm_instr.specs.Programs.{Programs}
 use Rattle.qm_denot.specs.declared.Parcel.{Parcel}
 use Rattle.qm_proto.specs.Model.State.{Part, Tables, wire_in, wire_of, first_bit, second_bit}
@@ -33,17 +34,29 @@ is_message _ _ = false
 abbrev pub pair_of : Wire → Message
 pair_of w = ByPair w.rank w.made
 
+-- the message of an instruction of rank r: a send's by the number of its pair, and a receive's by the half that it takes from its lane
+abbrev pub message_by : ℕ → ℕ → (Lane → Wire) → Instr → Option Message
+message_by r made half (instr.Alloc q) = None
+message_by r made half (instr.Free q) = None
+message_by r made half (instr.Do g) = None
+message_by r made half (instr.Measure q b) = None
+message_by r made half (instr.Set b v) = None
+message_by r made half (instr.Xor b c) = None
+message_by r made half (instr.When b g) = None
+message_by r made half (instr.SendBit b to tag) = None
+message_by r made half (instr.RecvBit b from tag) = None
+message_by r made half (instr.CopyTo q to tag) = Some (ByPair r made)
+message_by r made half (instr.CopyFrom q from tag) = Some (pair_of (half (lane from r kind.Copy tag)))
+message_by r made half (instr.UndoTo q to tag) = Some (BackTo to)
+message_by r made half (instr.UndoFrom q from tag) = Some (BackTo r)
+message_by r made half (instr.MoveTo q to tag) = Some (ByPair r made)
+message_by r made half (instr.MoveFrom q from tag) = Some (pair_of (half (lane from r kind.Move tag)))
+message_by r made half (instr.ReachTo q to tag) = Some (ByPair r made)
+message_by r made half (instr.ReachFrom q from tag) = Some (pair_of (half (lane from r kind.Reach tag)))
+
 -- the message of an instruction that rank r is in the middle of
 abbrev pub message_of : ℕ → Part → Instr → Option Message
-message_of r v (instr.CopyTo q to tag) = Some (ByPair r (v.made - 1))
-message_of r v (instr.MoveTo q to tag) = Some (ByPair r (v.made - 1))
-message_of r v (instr.ReachTo q to tag) = Some (ByPair r (v.made - 1))
-message_of r v (instr.CopyFrom q from tag) = Some (pair_of (wire_of v.taken))
-message_of r v (instr.MoveFrom q from tag) = Some (pair_of (wire_of v.taken))
-message_of r v (instr.ReachFrom q from tag) = Some (pair_of (wire_of v.taken))
-message_of r v (instr.UndoTo q to tag) = Some (BackTo to)
-message_of r v (instr.UndoFrom q from tag) = Some (BackTo r)
-message_of r v _ = None
+message_of r v i = message_by r (v.made - 1) (λ a. wire_of v.taken) i
 
 -- ---- debts
 -- the halves of the pair that rank r counted last
@@ -65,11 +78,22 @@ crossed q e f = Had f ∷ Cx f e ∷ Cx q e ∷ []
 -- (Laid beside the table of the events, each line is what has been done and isn't in the ideal circuit, or is in the ideal circuit and
 -- isn't done)
 abbrev pub debts : ℕ → Part → (ℕ → Wire) → (ℕ → Wire) → Instr → List (Option (List Letter))
+debts r v w lent (instr.Alloc q) = []
+debts r v w lent (instr.Free q) = []
+debts r v w lent (instr.Do g) = []
+debts r v w lent (instr.Measure q b) = []
+debts r v w lent (instr.Set b x) = []
+debts r v w lent (instr.Xor b c) = []
+debts r v w lent (instr.When b g) = []
+debts r v w lent (instr.SendBit b to tag) = []
+debts r v w lent (instr.RecvBit b from tag) = []
 debts r v w lent (instr.CopyTo q to tag) =
     let e = near_counted r v in
     let f = far_counted r v in
     None ∷ Some (paired e f) ∷ Some (crossed (w q) e f) ∷ []
 debts r v w lent (instr.CopyFrom q from tag) = None ∷ Some (letter_if (first_bit v.taken) (Flip (wire_of v.taken))) ∷ []
+debts r v w lent (instr.UndoTo q to tag) = None ∷ Some (Had (w q) ∷ []) ∷ []
+debts r v w lent (instr.UndoFrom q from tag) = None ∷ Some (letter_if (first_bit v.taken) (Phase 4 (w q))) ∷ []
 debts r v w lent (instr.MoveTo q to tag) =
     let e = near_counted r v in
     let f = far_counted r v in
@@ -85,8 +109,6 @@ debts r v w lent (instr.MoveFrom q from tag) =
     ∷ Some (letter_if (second_bit v.taken) (Phase 4 f) ++ letter_if (first_bit v.taken) (Flip f))
     ∷ Some (letter_if (second_bit v.taken) (Phase 4 f))
     ∷ []
-debts r v w lent (instr.UndoTo q to tag) = None ∷ Some (Had (w q) ∷ []) ∷ []
-debts r v w lent (instr.UndoFrom q from tag) = None ∷ Some (letter_if (first_bit v.taken) (Phase 4 (w q))) ∷ []
 debts r v w lent (instr.ReachTo q to tag) =
     let e = near_counted r v in
     let f = far_counted r v in
@@ -104,7 +126,6 @@ debts r v w lent (instr.ReachFrom q from tag) =
     ∷ Some (Cx (lent from) f ∷ Cx f (w q) ∷ [])
     ∷ Some (Cx (lent from) f ∷ Cx f (w q) ∷ Had f ∷ [])
     ∷ []
-debts r v w lent _ = []
 
 -- a message, and the letters that it owes
 pub record Debt : Type 0 where

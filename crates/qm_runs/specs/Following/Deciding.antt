@@ -15,12 +15,23 @@ use Rattle.qm_proto.specs.Model.Schedules.{state_at_start}
 -- how many events an instruction has before its deciding one: the Post of a copy, a move, an undo and the receiver of a reach, the Deliver
 -- of the sender of a reach, and the first event of every other instruction
 abbrev pub events_before : Instr → ℕ
+events_before (instr.Alloc q) = 0
+events_before (instr.Free q) = 0
+events_before (instr.Do g) = 0
+events_before (instr.Measure q b) = 0
+events_before (instr.Set b v) = 0
+events_before (instr.Xor b c) = 0
+events_before (instr.When b g) = 0
+events_before (instr.SendBit b to tag) = 0
+events_before (instr.RecvBit b from tag) = 0
 events_before (instr.CopyTo q to tag) = 2
-events_before (instr.MoveTo q to tag) = 4
+events_before (instr.CopyFrom q from tag) = 0
 events_before (instr.UndoTo q to tag) = 1
+events_before (instr.UndoFrom q from tag) = 0
+events_before (instr.MoveTo q to tag) = 4
+events_before (instr.MoveFrom q from tag) = 0
 events_before (instr.ReachTo q to tag) = 3
 events_before (instr.ReachFrom q from tag) = 4
-events_before _ = 0
 
 abbrev pub before_deciding : Option Instr → ℕ
 before_deciding None = 0

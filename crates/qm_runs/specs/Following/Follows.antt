@@ -1,5 +1,5 @@
 -- What ties a run to the ideal run at all times: the letters done are those of the ideal circuit and then those that messages owe
-use Rattle.std.specs.Prelude.{◌≡◌, ℕ, ◌<◌, false, List, [], ◌∷◌, ◌++◌, Option, Some, ◌⊎◌}
+use Rattle.std.specs.Prelude.{◌≡◌, ℕ, ◌<◌, false, List, [], ◌∷◌, ◌++◌, Option, Some, None, ◌⊎◌}
 use Rattle.qm_denot.specs.declared.Wire.{Wire}
 use Rattle.qm_denot.specs.Circuits.{Circuit, amp, IsEqualUpTo}
 use Rattle.qm_denot.specs.CircuitFacts.{IsNonzero}
@@ -32,8 +32,24 @@ NamesCounted t (l ∷ ls) = AllCounted t (operands l) × NamesCounted t ls
 -- ---- copies that are being given up
 -- where rank r, of which one event is done, stands at an undo of q, the copy and its source are equal in every branch
 abbrev pub AgreeIn : Programs → Tables → ℕ → Circuit → Option Instr → Type 0
+AgreeIn p t r i None = Unit {0}
+AgreeIn p t r i (Some (instr.Alloc q)) = Unit {0}
+AgreeIn p t r i (Some (instr.Free q)) = Unit {0}
+AgreeIn p t r i (Some (instr.Do g)) = Unit {0}
+AgreeIn p t r i (Some (instr.Measure q b)) = Unit {0}
+AgreeIn p t r i (Some (instr.Set b v)) = Unit {0}
+AgreeIn p t r i (Some (instr.Xor b c)) = Unit {0}
+AgreeIn p t r i (Some (instr.When b g)) = Unit {0}
+AgreeIn p t r i (Some (instr.SendBit b to tag)) = Unit {0}
+AgreeIn p t r i (Some (instr.RecvBit b from tag)) = Unit {0}
+AgreeIn p t r i (Some (instr.CopyTo q to tag)) = Unit {0}
+AgreeIn p t r i (Some (instr.CopyFrom q from tag)) = Unit {0}
 AgreeIn p t r i (Some (instr.UndoTo q to tag)) = Agree (amp i) (source_wire p t to) (wire_in t r q)
-AgreeIn p t r i _ = Unit {0}
+AgreeIn p t r i (Some (instr.UndoFrom q from tag)) = Unit {0}
+AgreeIn p t r i (Some (instr.MoveTo q to tag)) = Unit {0}
+AgreeIn p t r i (Some (instr.MoveFrom q from tag)) = Unit {0}
+AgreeIn p t r i (Some (instr.ReachTo q to tag)) = Unit {0}
+AgreeIn p t r i (Some (instr.ReachFrom q from tag)) = Unit {0}
 
 -- ---- what is owed
 -- some holder owes the letters of the message

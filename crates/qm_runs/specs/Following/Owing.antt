@@ -33,5 +33,6 @@ pub record FollowsItsIdeal (p : Programs) (schedule : List ℕ) : Type 0 where
   pub untouched : (a : Message × Letter) (w : Wire) (r : ℕ) → (let t = (replay p schedule).tables in
       Contains debts a → Contains (operands a.1) w → enabled p t r ≡ true → event_message t r (current p t r) ≢ a.0 → ¬ Touches p t r w)
 
+-- each legal schedule of programs that have no fault follows its ideal run
 abbrev pub FollowsLaw : Type 0
 FollowsLaw = (p : Programs) → IsReady p → IsInRange p → (schedule : List ℕ) → IsLegal p schedule → FollowsItsIdeal p schedule

@@ -1,5 +1,5 @@
 -- What the ideal machine sees of a run of several ranks: instructions whose deciding event is done are done whole, all others are not begun
-use Rattle.std.specs.Prelude.{ℕ, ◌+◌, ◌-◌, nat_lt, Bool, true, false, ◌&&◌, not, if◌then◌else◌, List, [], ◌∷◌, Option, Some, is_some}
+use Rattle.std.specs.Prelude.{ℕ, ◌+◌, ◌-◌, nat_lt, Bool, true, false, ◌&&◌, not, if◌then◌else◌, List, [], ◌∷◌, Option, Some, None, is_some}
 use Rattle.qm_instr.specs.declared.Instr.{Instr}
 use Rattle.qm_instr.specs.declared.Instr.TheVariants as instr
 use Rattle.qm_instr.specs.declared.Kind.{Kind}
@@ -13,10 +13,24 @@ use Rattle.qm_runs.specs.Following.Deciding.{is_decided}
 
 -- the instruction prepares a pair
 abbrev pub has_pair : Option Instr → Bool
+has_pair None = false
+has_pair (Some (instr.Alloc q)) = false
+has_pair (Some (instr.Free q)) = false
+has_pair (Some (instr.Do g)) = false
+has_pair (Some (instr.Measure q b)) = false
+has_pair (Some (instr.Set b v)) = false
+has_pair (Some (instr.Xor b c)) = false
+has_pair (Some (instr.When b g)) = false
+has_pair (Some (instr.SendBit b to tag)) = false
+has_pair (Some (instr.RecvBit b from tag)) = false
 has_pair (Some (instr.CopyTo q to tag)) = true
+has_pair (Some (instr.CopyFrom q from tag)) = false
+has_pair (Some (instr.UndoTo q to tag)) = false
+has_pair (Some (instr.UndoFrom q from tag)) = false
 has_pair (Some (instr.MoveTo q to tag)) = true
+has_pair (Some (instr.MoveFrom q from tag)) = false
 has_pair (Some (instr.ReachTo q to tag)) = true
-has_pair _ = false
+has_pair (Some (instr.ReachFrom q from tag)) = false
 
 -- a pair is counted that the ideal machine has not counted yet
 abbrev pub counts_early : Option Instr → ℕ → Bool
@@ -37,12 +51,18 @@ abbrev pub load_seen : Kind → Parcel → Load
 load_seen kind.Bit x = Told (first_bit x)
 load_seen kind.Copy x = Carried (wire_of x)
 load_seen kind.Move x = Carried (wire_of x)
-load_seen _ x = Token
+load_seen kind.Undo x = Token
+load_seen kind.Reach x = Token
+load_seen kind.Back x = Token
 
 -- the ideal machine has no lanes for the halves of a reach
 abbrev pub is_seen : Kind → Bool
+is_seen kind.Bit = true
+is_seen kind.Copy = true
+is_seen kind.Move = true
+is_seen kind.Undo = true
 is_seen kind.Reach = false
-is_seen _ = true
+is_seen kind.Back = true
 
 -- the loads of a lane: of each parcel that has its bits
 abbrev pub loads_seen : Kind → List Parcel → List Load

@@ -1,5 +1,5 @@
 -- What a schedule has begun, what it still has to correct, and the theorem that ties every legal schedule to the ideal run
-use Rattle.std.specs.Prelude.{◌≡◌, ◌≢◌, ℕ, ◌+◌, nat_eq, nat_lt, Bool, true, false, not, ◌||◌, if◌then◌else◌, List, [], ◌∷◌, ◌++◌, Option, Some, None, filter, fold, Contains, ◌⊎◌}
+use Rattle.std.specs.Prelude.{◌≡◌, ◌≢◌, ℕ, ◌+◌, nat_eq, nat_lt, Bool, true, false, not, ◌&&◌, ◌||◌, if◌then◌else◌, List, [], ◌∷◌, ◌++◌, Option, Some, None, is_some, unwrap_or, filter, fold, Contains, ◌⊎◌}
 use Rattle.qm_denot.specs.declared.Wire.{Wire}
 use Rattle.qm_denot.specs.declared.Letter.{Letter}
 use Rattle.qm_denot.specs.declared.Letter.TheVariants.{Phase, Flip}
@@ -9,8 +9,6 @@ use Rattle.qm_denot.specs.Weights.{operands}
 use Rattle.qm_denot.specs.Tags.{Tagged, letters_of, tagged, without_key}
 use Rattle.qm_instr.specs.declared.Instr.{Instr}
 use Rattle.qm_instr.specs.declared.Instr.TheVariants as instr
-use Rattle.qm_instr.specs.declared.Kind.TheVariants as kind
-use Rattle.qm_instr.specs.Lanes.{lane}
 use Rattle.qm_instr.specs.Programs.{Programs, IsInRange}
 use Rattle.qm_check.specs.Checks.{IsReady}
 use Rattle.qm_proto.specs.declared.Event.{Event}
@@ -23,8 +21,8 @@ use Rattle.qm_proto.specs.Model.Rows.{current, source_wire}
 use Rattle.qm_proto.specs.Model.Runs.{row_next, row_checks, enabled, next, next_letters}
 use Rattle.qm_proto.specs.Model.Schedules.{state_at_start, replay, IsLegal}
 use Rattle.qm_proto.specs.Model.Ideal.{ideal_replay, IsIdealRun}
-use Rattle.qm_runs.specs.Following.Deciding.{ideal_of}
-use Rattle.qm_runs.specs.Following.Debts.{Message, ByPair, NoMessage, pair_of, is_message, message_of, far_counted}
+use Rattle.qm_runs.specs.Following.Deciding.{events_before, before_deciding, ideal_of}
+use Rattle.qm_runs.specs.Following.Debts.{Message, NoMessage, is_message, message_by, message_of, far_counted}
 
 -- ---- events of messages
 -- the message, where there is one
@@ -35,49 +33,68 @@ message_from (Some k) = k
 -- the message of a rank's first event of an instruction: a send's is named by the wire that it is about to count, a receive's by the
 -- half at the front of its lane
 abbrev pub message_begun : Tables → ℕ → Instr → Option Message
-message_begun t r (instr.CopyTo q to tag) = Some (ByPair r (t.parts r).made)
-message_begun t r (instr.MoveTo q to tag) = Some (ByPair r (t.parts r).made)
-message_begun t r (instr.ReachTo q to tag) = Some (ByPair r (t.parts r).made)
-message_begun t r (instr.CopyFrom q from tag) = Some (pair_of (wire_of (front t (lane from r kind.Copy tag))))
-message_begun t r (instr.MoveFrom q from tag) = Some (pair_of (wire_of (front t (lane from r kind.Move tag))))
-message_begun t r (instr.ReachFrom q from tag) = Some (pair_of (wire_of (front t (lane from r kind.Reach tag))))
-message_begun t r i = message_of r (t.parts r) i
+message_begun t r i = message_by r (t.parts r).made (λ a. wire_of (front t a)) i
 
 abbrev pub event_message : Tables → ℕ → Option Instr → Message
 event_message t r None = NoMessage
 event_message t r (Some i) = message_from (if nat_eq (t.parts r).stage 0 then message_begun t r i else message_of r (t.parts r) i)
 
--- a message's deciding Post is the event of this stage, of a copy's, a move's or an undo's sender, or of a reach's receiver
+-- how many protocol measurements a message has by its deciding Post, where that is the deciding event of the instruction: of a copy's, a
+-- move's or an undo's sender, or of a reach's receiver
+abbrev pub settled_by : Instr → Option ℕ
+settled_by (instr.Alloc q) = None
+settled_by (instr.Free q) = None
+settled_by (instr.Do g) = None
+settled_by (instr.Measure q b) = None
+settled_by (instr.Set b v) = None
+settled_by (instr.Xor b c) = None
+settled_by (instr.When b g) = None
+settled_by (instr.SendBit b to tag) = None
+settled_by (instr.RecvBit b from tag) = None
+settled_by (instr.CopyTo q to tag) = Some 1
+settled_by (instr.CopyFrom q from tag) = None
+settled_by (instr.UndoTo q to tag) = Some 1
+settled_by (instr.UndoFrom q from tag) = None
+settled_by (instr.MoveTo q to tag) = Some 2
+settled_by (instr.MoveFrom q from tag) = None
+settled_by (instr.ReachTo q to tag) = None
+settled_by (instr.ReachFrom q from tag) = Some 2
+
+-- a message's deciding Post is the event of this stage
 abbrev pub settles : Option Instr → ℕ → Bool
-settles (Some (instr.CopyTo q to tag)) stage = nat_eq stage 2
-settles (Some (instr.MoveTo q to tag)) stage = nat_eq stage 4
-settles (Some (instr.UndoTo q to tag)) stage = nat_eq stage 1
-settles (Some (instr.ReachFrom q from tag)) stage = nat_eq stage 4
-settles _ stage = false
+settles None stage = false
+settles (Some i) stage = is_some (settled_by i) && nat_eq stage (events_before i)
 
 -- how many protocol measurements a message has by then
 abbrev pub outcomes_of : Option Instr → ℕ
-outcomes_of (Some (instr.MoveTo q to tag)) = 2
-outcomes_of (Some (instr.ReachFrom q from tag)) = 2
-outcomes_of _ = 1
+outcomes_of None = 1
+outcomes_of (Some i) = unwrap_or (settled_by i) 1
 
--- the event comes before its message's deciding Post
+-- the event comes before its message's deciding Post, since it comes before the deciding event of its instruction
 abbrev pub is_early : Option Instr → ℕ → Bool
-is_early (Some (instr.CopyTo q to tag)) stage = nat_lt stage 2
-is_early (Some (instr.MoveTo q to tag)) stage = nat_lt stage 4
-is_early (Some (instr.UndoTo q to tag)) stage = nat_lt stage 1
-is_early (Some (instr.ReachTo q to tag)) stage = nat_lt stage 3
-is_early (Some (instr.ReachFrom q from tag)) stage = nat_lt stage 4
-is_early _ stage = false
+is_early o stage = nat_lt stage (before_deciding o)
 
 -- the corrections that a deciding Post of rank r leaves due, the last one to be done first
 abbrev pub corrections : Programs → Tables → ℕ → Option Instr → List Letter
+corrections p t r None = []
+corrections p t r (Some (instr.Alloc q)) = []
+corrections p t r (Some (instr.Free q)) = []
+corrections p t r (Some (instr.Do g)) = []
+corrections p t r (Some (instr.Measure q b)) = []
+corrections p t r (Some (instr.Set b v)) = []
+corrections p t r (Some (instr.Xor b c)) = []
+corrections p t r (Some (instr.When b g)) = []
+corrections p t r (Some (instr.SendBit b to tag)) = []
+corrections p t r (Some (instr.RecvBit b from tag)) = []
 corrections p t r (Some (instr.CopyTo q to tag)) = letter_if (protocol_next t r) (Flip (far_counted r (t.parts r)))
+corrections p t r (Some (instr.CopyFrom q from tag)) = []
+corrections p t r (Some (instr.UndoTo q to tag)) = letter_if (protocol_next t r) (Phase 4 (source_wire p t to))
+corrections p t r (Some (instr.UndoFrom q from tag)) = []
 corrections p t r (Some (instr.MoveTo q to tag)) =
     letter_if (protocol_next t r) (Phase 4 (far_counted r (t.parts r))) ++ letter_if (t.parts r).first (Flip (far_counted r (t.parts r)))
-corrections p t r (Some (instr.UndoTo q to tag)) = letter_if (protocol_next t r) (Phase 4 (source_wire p t to))
+corrections p t r (Some (instr.MoveFrom q from tag)) = []
+corrections p t r (Some (instr.ReachTo q to tag)) = []
 corrections p t r (Some (instr.ReachFrom q from tag)) = letter_if (protocol_next t r) (Phase 4 (source_wire p t from))
-corrections p t r _ = []
 
 -- whether a correction is still due after an event: FixX does the Flip, and FixZ the change of sign
 abbrev pub is_due_after : Event → Letter → Bool

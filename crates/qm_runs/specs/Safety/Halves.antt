@@ -29,10 +29,23 @@ pub record IsInReach (p : Programs) (t : Tables) (r : ℕ) : Type 0 where
 
 -- the event of a `copyto`, a `moveto` or a `reachto` that takes its near half, counted from 0
 abbrev pub near_taken_at : Instr → Option ℕ
+near_taken_at (instr.Alloc q) = None
+near_taken_at (instr.Free q) = None
+near_taken_at (instr.Do g) = None
+near_taken_at (instr.Measure q b) = None
+near_taken_at (instr.Set b v) = None
+near_taken_at (instr.Xor b c) = None
+near_taken_at (instr.When b g) = None
+near_taken_at (instr.SendBit b to tag) = None
+near_taken_at (instr.RecvBit b from tag) = None
 near_taken_at (instr.CopyTo q to tag) = Some 2
+near_taken_at (instr.CopyFrom q from tag) = None
+near_taken_at (instr.UndoTo q to tag) = None
+near_taken_at (instr.UndoFrom q from tag) = None
 near_taken_at (instr.MoveTo q to tag) = Some 3
+near_taken_at (instr.MoveFrom q from tag) = None
 near_taken_at (instr.ReachTo q to tag) = Some 2
-near_taken_at _ = None
+near_taken_at (instr.ReachFrom q from tag) = None
 
 -- rank r stands past the first event of such an instruction, in which the pair is made, and has not had that one
 pub record IsBetween (p : Programs) (t : Tables) (r : ℕ) : Type 0 where

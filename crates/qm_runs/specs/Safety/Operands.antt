@@ -2,6 +2,7 @@
 use Rattle.std.specs.Prelude.{◌≡◌, ◌≢◌, ℕ, ◌<◌, true, List, [], ◌∷◌, All, Option, Some, None, is_some, length}
 use Rattle.qm_denot.specs.Wires.{has}
 use Rattle.qm_denot.specs.Parcels.{IsFillable}
+use Rattle.qm_limits.specs.declared.TheConstants.{BITS}
 use Rattle.qm_instr.specs.declared.Instr.{Instr}
 use Rattle.qm_instr.specs.declared.Instr.TheVariants as instr
 use Rattle.qm_instr.specs.Operands.{slots_of}
@@ -21,9 +22,22 @@ use Rattle.qm_runs.specs.Tables.Lines.{acts_of}
 -- the slot that an instruction finds empty, and fills at its first event
 abbrev pub slot_filled : Instr → Option ℕ
 slot_filled (instr.Alloc q) = Some q
+slot_filled (instr.Free q) = None
+slot_filled (instr.Do g) = None
+slot_filled (instr.Measure q b) = None
+slot_filled (instr.Set b v) = None
+slot_filled (instr.Xor b c) = None
+slot_filled (instr.When b g) = None
+slot_filled (instr.SendBit b to tag) = None
+slot_filled (instr.RecvBit b from tag) = None
+slot_filled (instr.CopyTo q to tag) = None
 slot_filled (instr.CopyFrom q from tag) = Some q
+slot_filled (instr.UndoTo q to tag) = None
+slot_filled (instr.UndoFrom q from tag) = None
+slot_filled (instr.MoveTo q to tag) = None
 slot_filled (instr.MoveFrom q from tag) = Some q
-slot_filled _ = None
+slot_filled (instr.ReachTo q to tag) = None
+slot_filled (instr.ReachFrom q from tag) = None
 
 -- rank r's slots are as its instruction needs them: full, before each of its events, but for the one that it fills, which is empty before
 -- its first event and then has the wire that the rank took
@@ -50,7 +64,7 @@ IsThere p r (Fills a b) t = IsFillable (t.lanes a)
 IsThere p r (Receives a) t = is_some (front t a).bits ≡ true
 IsThere p r OwnUsed t = 0 < length (t.parts r).own
 IsThere p r ProtocolUsed t = 0 < length (t.parts r).protocol
-IsThere p r (BitSet b v) t = b < 32
+IsThere p r (BitSet b v) t = b < BITS
 IsThere p r _ t = Unit {0}
 
 -- so for each act of a list, when its turn comes

@@ -31,9 +31,11 @@ pub record Shape : Type 0 where
   pub rule : Rule
   pub moves : List Move
 
+-- the shape with this rule and these moves
 abbrev pub shape : Rule → List Move → Shape
 shape rule ms = record { rule = rule; moves = ms }
 
+-- the shape of a line of the event table
 abbrev pub shape_of : Row → Shape
 shape_of w = shape w.rule (moves (list_of w.acts))
 

@@ -1,14 +1,15 @@
 -- What is so of each rank, each lane and each list of halves at all times of a run
-use Rattle.std.specs.Prelude.{◌≡◌, ℕ, ◌+◌, ◌-◌, ◌<◌, ◌≤◌, nat_eq, nat_lt, Bool, true, false, cond, ◌&&◌, ◌||◌, List, length, take, sum_by, All, Option, Some, None, is_some}
+use Rattle.std.specs.Prelude.{◌≡◌, ℕ, ◌+◌, ◌-◌, ◌<◌, ◌≤◌, nat_eq, nat_lt, Bool, true, false, cond, ◌&&◌, ◌||◌, if◌then◌else◌, List, length, take, sum_by, All, Option, Some, None, is_some}
 use Rattle.qm_denot.specs.declared.Wire.{Wire}
 use Rattle.qm_denot.specs.Wires.{Wires, no_wires, put, how_many}
+use Rattle.qm_limits.specs.declared.TheConstants.{BITS}
 use Rattle.qm_instr.specs.declared.Instr.{Instr}
 use Rattle.qm_instr.specs.declared.Instr.TheVariants as instr
 use Rattle.qm_instr.specs.declared.Kind.{Kind}
 use Rattle.qm_instr.specs.declared.Kind.TheVariants as kind
 use Rattle.qm_instr.specs.declared.Lane.{Lane}
 use Rattle.qm_instr.specs.Counts.{protocol_of, own_of}
-use Rattle.qm_instr.specs.Lanes.{lane, lane_sent, is_on}
+use Rattle.qm_instr.specs.Lanes.{lane_sent, lane_received, is_on}
 use Rattle.qm_instr.specs.Programs.{Programs, RankProgram, rank_of}
 use Rattle.qm_check.specs.Messages.{posts_in}
 use Rattle.qm_check.specs.Slots.{full_after}
@@ -29,12 +30,23 @@ abbrev pub middle : Option ℕ → ℕ → ℕ → ℕ → Middle
 middle settles near unfilled outcome = record { settles = settles; near = near; unfilled = unfilled; outcome = outcome }
 
 abbrev pub middle_of : Instr → Middle
+middle_of (instr.Alloc q) = middle None 0 0 5
+middle_of (instr.Free q) = middle None 0 0 5
+middle_of (instr.Do g) = middle None 0 0 5
+middle_of (instr.Measure q b) = middle None 0 0 5
+middle_of (instr.Set b v) = middle None 0 0 5
+middle_of (instr.Xor b c) = middle None 0 0 5
+middle_of (instr.When b g) = middle None 0 0 5
+middle_of (instr.SendBit b to tag) = middle None 0 0 5
+middle_of (instr.RecvBit b from tag) = middle None 0 0 5
 middle_of (instr.CopyTo q to tag) = middle None 3 3 5
 middle_of (instr.CopyFrom q from tag) = middle (Some q) 0 0 5
+middle_of (instr.UndoTo q to tag) = middle None 0 0 5
+middle_of (instr.UndoFrom q from tag) = middle None 0 0 5
 middle_of (instr.MoveTo q to tag) = middle None 4 5 3
 middle_of (instr.MoveFrom q from tag) = middle (Some q) 0 0 5
 middle_of (instr.ReachTo q to tag) = middle None 3 3 2
-middle_of _ = middle None 0 0 5
+middle_of (instr.ReachFrom q from tag) = middle None 0 0 5
 
 abbrev pub middle_at : Option Instr → Middle
 middle_at None = middle None 0 0 5
@@ -77,7 +89,7 @@ pub record Stands (r : ℕ) (x : RankProgram) (m : Middle) (at s : ℕ) (v : Par
   pub in_hand : (q : ℕ) → m.settles ≡ Some q → nat_lt 0 s ≡ true → slots q ≡ Some (wire_of v.taken)
   pub protocol : length v.protocol + (sum_by protocol_of (take at x.instructions) + outcomes_in m s) ≡ sum_by protocol_of x.instructions
   pub own : length v.own + sum_by own_of (take at x.instructions) ≡ sum_by own_of x.instructions
-  pub bits : length v.bits ≡ 32
+  pub bits : length v.bits ≡ BITS
 
 abbrev pub IsRankWell : Programs → Tables → ℕ → Type 0
 IsRankWell p t r =
@@ -87,10 +99,12 @@ IsRankWell p t r =
 -- ---- one lane
 -- the parcels of these kinds carry halves
 abbrev pub is_half : Kind → Bool
+is_half kind.Bit = false
 is_half kind.Copy = true
 is_half kind.Move = true
+is_half kind.Undo = false
 is_half kind.Reach = true
-is_half _ = false
+is_half kind.Back = false
 
 -- the lane on which an instruction, where there is one, is a send
 abbrev pub sent_at : ℕ → Option Instr → Option Lane
@@ -109,17 +123,36 @@ IsLaneWell p t a =
     IsLaneSound a (rank_of p a.from) (current p t a.from) v.at v.stage (t.lanes a)
 
 -- ---- the far halves of one rank
--- the lane from which an instruction takes a half
+-- the lane, where there is one and its parcels carry halves
+abbrev pub if_half : Option Lane → Option Lane
+if_half None = None
+if_half (Some a) = if is_half a.kind then Some a else None
+
+-- the lane from which an instruction takes a half: that on which it is a receive, of halves
 abbrev pub half_lane : ℕ → Option Instr → Option Lane
-half_lane r (Some (instr.CopyFrom q from tag)) = Some (lane from r kind.Copy tag)
-half_lane r (Some (instr.MoveFrom q from tag)) = Some (lane from r kind.Move tag)
-half_lane r (Some (instr.ReachFrom q from tag)) = Some (lane from r kind.Reach tag)
-half_lane r _ = None
+half_lane r None = None
+half_lane r (Some i) = if_half (lane_received r i)
 
 -- it holds the half that it took up to its end
 abbrev pub keeps_half : Option Instr → Bool
+keeps_half None = false
+keeps_half (Some (instr.Alloc q)) = false
+keeps_half (Some (instr.Free q)) = false
+keeps_half (Some (instr.Do g)) = false
+keeps_half (Some (instr.Measure q b)) = false
+keeps_half (Some (instr.Set b v)) = false
+keeps_half (Some (instr.Xor b c)) = false
+keeps_half (Some (instr.When b g)) = false
+keeps_half (Some (instr.SendBit b to tag)) = false
+keeps_half (Some (instr.RecvBit b from tag)) = false
+keeps_half (Some (instr.CopyTo q to tag)) = false
+keeps_half (Some (instr.CopyFrom q from tag)) = false
+keeps_half (Some (instr.UndoTo q to tag)) = false
+keeps_half (Some (instr.UndoFrom q from tag)) = false
+keeps_half (Some (instr.MoveTo q to tag)) = false
+keeps_half (Some (instr.MoveFrom q from tag)) = false
+keeps_half (Some (instr.ReachTo q to tag)) = false
 keeps_half (Some (instr.ReachFrom q from tag)) = true
-keeps_half _ = false
 
 abbrev pub has_parcel : (Lane → List Parcel) → Option Lane → Bool
 has_parcel lanes None = false

@@ -5,14 +5,24 @@ use super::{COPIED, COPY_ONE, command_of};
 use crate::tool_plain;
 use qm_io::{Failed, MemSink, Source, SureSource};
 use std::alloc::{AllocError, Global};
+use std::process::Abort;
 use std::test::Fail;
 
-/// The status of a command whose sink fails at one call, and how many bytes the sink took.
-fn run_failing(alloc: Global, words: &str, failing: u64) -> Result<(u8, usize), AllocError> {
+/// The status of a command whose sink fails at one call, and how many bytes of what is due the sink took.
+fn run_failing(
+    rt: &impl Abort,
+    alloc: Global,
+    words: &str,
+    failing: u64,
+) -> Result<(u8, usize), Fail> {
     let command = command_of(alloc, words)?;
     let mut source = SureSource::start(COPY_ONE.as_bytes().to_vec(alloc)?, 100);
     let mut sink = MemSink::start(alloc, 400, [failing].to_vec(alloc)?, 8)?;
     let status = tool_plain(alloc, &command, &mut source, &mut sink);
+    assert!(rt;
+        COPIED.as_bytes().starts_with(sink.taken()),
+        "{words} at call {failing}"
+    );
     Ok((status.code(), sink.taken().len()))
 }
 
@@ -22,17 +32,17 @@ fn a_flush_that_fails_is_a_write_fault(rt: HostRuntime) -> Result<(), Fail> {
     for words in ["plain", "sched 3"] {
         let mut calls = 1u64;
         for _ in 0..200 {
-            if run_failing(rt.alloc(), words, calls)?.0 == 7 {
+            if run_failing(&rt, rt.alloc(), words, calls)?.0 == 7 {
                 calls = calls.saturating_add(1);
             }
         }
         let whole = COPIED.len();
-        assert_eq!(rt; run_failing(rt.alloc(), words, calls)?, (0, whole));
+        assert_eq!(rt; run_failing(&rt, rt.alloc(), words, calls)?, (0, whole));
         assert_eq!(rt;
-            run_failing(rt.alloc(), words, calls.saturating_sub(1))?,
+            run_failing(&rt, rt.alloc(), words, calls.saturating_sub(1))?,
             (7, whole)
         );
-        assert!(rt; run_failing(rt.alloc(), words, calls.saturating_sub(2))?.1 < whole);
+        assert!(rt; run_failing(&rt, rt.alloc(), words, calls.saturating_sub(2))?.1 < whole);
     }
     Ok(())
 }

@@ -19,8 +19,9 @@ fn largest(alloc: Global) -> Result<Vec<u8>, AllocError> {
     Ok(text)
 }
 
-const LARGEST_STATE: &str =
-    "state 1\nranks 1\nprotocol 0\nscale 0\nbits 0 80000001\nlive 0.0 0.1 0.2 0.3 0.4 0.5 0.6 0.7 0.8 0.9 0.10 0.11 0.12 0.13 0.14 0.15\n1111111111111111 1 0 0 0\nend\n";
+const LARGEST_STATE: &str = "state 1\nranks 1\nprotocol 0\nscale 0\nbits 0 80000001\n\
+        live 0.0 0.1 0.2 0.3 0.4 0.5 0.6 0.7 0.8 0.9 0.10 0.11 0.12 0.13 0.14 0.15\n\
+        1111111111111111 1 0 0 0\nend\n";
 
 const LARGEST_CHECK: &str =
     "check 1\nranks 1\ncapacity 20\ninstructions 100000\nevents 100000\nown 50000\nprotocol 0\nrendezvous yes\nend\n";

@@ -10,8 +10,9 @@ const PAIR: &str =
     "qmpi 1\nranks 2\nqubits 1\nbuffer 1\nrank 0\nalloc 0\nh 0\ncopyto 0 1 1\nend\nrank 1\ncopyfrom 0 0 1\nend\nprotocol 0 b1\n";
 
 /// The state in which a qubit comes back from two rounds over four ranks: that in which it went.
-const GONE_ROUND: &str =
-    "state 1\nranks 4\nprotocol 16\nscale 17\nbits 0 00000000\nbits 1 00000000\nbits 2 00000000\nbits 3 00000000\nlive 0.0\n0 1 0 0 0\n1 0 1 0 0\nend\n";
+const GONE_ROUND: &str = "state 1\nranks 4\n\
+        protocol 16\nscale 17\nbits 0 00000000\nbits 1 00000000\nbits 2 00000000\nbits 3 00000000\n\
+        live 0.0\n0 1 0 0 0\n1 0 1 0 0\nend\n";
 
 /// Whole texts. The source is not read, so it may be no program.
 fn text_rows() -> [Row; 11] {
@@ -75,30 +76,30 @@ fn text_rows() -> [Row; 11] {
     ]
 }
 
-/// Words that are no command on a made program, though most are one but for a word.
-fn usage_words() -> [&'static str; 21] {
+/// The runs of the largest sizes.
+fn longest_rows() -> [Row; 2] {
     [
-        "gen ring 0 1",
-        "gen ring 10001 1",
-        "job ring 0 1",
-        "job ring 10001 1",
-        "gen ghz 1 1",
-        "gen ghz 11 1",
-        "job parity 0 1",
-        "gen parity 9001 1",
-        "gen ring 0000000001 1",
-        "gen ring 1000000000 1",
-        "gen ring 4294967297 1",
-        "gen ring 1 18446744073709551616",
-        "gen ring 1 000000000000000000001",
-        "job ghz 3 -1",
-        "job ghz +3 1",
-        "gen star 3 1",
-        "Gen ghz 3 1",
-        "gen GHZ 3 1",
-        "gen ghz 3",
-        "gen ghz 3 1 1",
-        "job",
+        (
+            "job ring 10000 7",
+            "",
+            0,
+            "job ring 10000 7\nevents 320003\nprotocol 80000\nscale 80001\nlines 2\nend\n",
+        ),
+        (
+            "job parity 9000 5",
+            "",
+            0,
+            "job parity 9000 5\nevents 315004\nprotocol 54000\nscale 63000\nlines 1\nend\n",
+        ),
+    ]
+}
+
+/// Words that are no command on a made program, though they are one but for a word.
+fn usage_rows() -> [Row; 3] {
+    [
+        ("gen ring 0 1", "", 2, "usage\n"),
+        ("job ghz +3 1", "", 2, "usage\n"),
+        ("gen parity 3 1 1", "", 2, "usage\n"),
     ]
 }
 
@@ -108,29 +109,32 @@ fn made_programs_are_written_and_summed_up(rt: HostRuntime) -> Result<(), Fail> 
 }
 
 #[test]
-fn other_words_make_nothing(rt: HostRuntime) -> Result<(), Fail> {
-    for words in usage_words() {
-        try_rows(&rt, rt.alloc(), &[(words, "", 2, "usage\n")])?;
-    }
-    Ok(())
+fn runs_of_the_largest_sizes_are_summed_up(rt: HostRuntime) -> Result<(), Fail> {
+    try_rows(&rt, rt.alloc(), &longest_rows())
 }
 
-// The sizes at both ends of each kind's range are made.
+#[test]
+fn other_words_make_nothing(rt: HostRuntime) -> Result<(), Fail> {
+    try_rows(&rt, rt.alloc(), &usage_rows())
+}
+
+// The sizes at both ends of each kind's range are made, and their texts are as long as they should be.
 #[test]
 fn the_least_and_the_largest_are_made(rt: HostRuntime) -> Result<(), Fail> {
-    for words in [
-        "gen ring 1 1",
-        "gen ring 10000 1",
-        "gen ghz 2 1",
-        "gen ghz 10 1",
-        "gen parity 1 1",
-        "gen parity 9000 18446744073709551615",
+    for (words, bytes) in [
+        ("gen ring 1 1", 337usize),
+        ("gen ring 10000 1", 80_345),
+        ("gen ghz 2 1", 109),
+        ("gen ghz 10 1", 482),
+        ("gen parity 1 1", 373),
+        ("gen parity 9000 18446744073709551615", 63_378),
     ] {
         let command = command_of(rt.alloc(), words)?;
         let mut source = SureSource::start(Vec::new(rt.alloc()), 7);
         let mut sink = MemSink::start(rt.alloc(), 200_000, Vec::new(rt.alloc()), 65_536)?;
         let status = tool_plain(rt.alloc(), &command, &mut source, &mut sink);
         assert_eq!(rt; status.code(), 0, "{words}");
+        assert_eq!(rt; sink.taken().len(), bytes, "{words}");
     }
     Ok(())
 }

@@ -8,6 +8,7 @@ use qm_check::check;
 use qm_denot::{Amps, PlainAmps};
 use qm_expand::read;
 use qm_io::{MemSink, SureSource};
+use qm_limits::{MOST_BYTES, MOST_CAPACITY, MOST_RANKS};
 use qm_machine::{Machine, State, Step};
 use rand_core::utils::NextWord;
 use rand_pcg::Lcg64Xsh32;
@@ -24,73 +25,98 @@ pub(super) struct Program {
     pub(super) body: &'static str,
     /// How many protocol outcomes each rank takes.
     pub(super) taken: [u8; 4],
+    /// The widest buffers that it is given.
+    pub(super) widest: u32,
 }
 
 /// No program here has more protocol tapes.
 const MOST_TAPES: u32 = 256;
 
 /// Twelve programs whose measured bits can be, and whose uncopies and frees are lawful in every order.
+///
+/// Three ranks with three slots leave buffers of 4 no room in a capacity of 20.
 fn programs() -> [Program; 12] {
     [
         Program {
             head: "qmpi 1 ranks 4 qubits 1 buffer",
             body: "rank 0 alloc 0 h 0 bcast 0 0 5 end rank 1 bcast 0 0 5 end rank 2 bcast 0 0 5 t 0 end rank 3 bcast 0 0 5 end",
             taken: [3, 0, 0, 0],
+            widest: 4,
         },
         Program {
             head: "qmpi 1 ranks 3 qubits 1 buffer",
-            body: "rank 0 alloc 0 h 0 t 0 bcast 0 0 5 unbcast 0 0 6 h 0 end rank 1 bcast 0 0 5 z 0 unbcast 0 0 6 end rank 2 bcast 0 0 5 s 0 unbcast 0 0 6 end",
+            body: "rank 0 alloc 0 h 0 t 0 bcast 0 0 5 unbcast 0 0 6 h 0 end \
+                rank 1 bcast 0 0 5 z 0 unbcast 0 0 6 end rank 2 bcast 0 0 5 s 0 unbcast 0 0 6 end",
             taken: [2, 1, 1, 0],
+            widest: 4,
         },
         Program {
             head: "qmpi 1 ranks 3 qubits 2 buffer",
-            body: "rank 0 alloc 0 alloc 1 h 0 reduce 0 1 0 2 end rank 1 alloc 0 h 0 t 0 reduce 0 0 0 2 h 0 end rank 2 alloc 0 x 0 reduce 0 0 0 2 end",
+            body: "rank 0 alloc 0 alloc 1 h 0 reduce 0 1 0 2 end \
+                rank 1 alloc 0 h 0 t 0 reduce 0 0 0 2 h 0 end rank 2 alloc 0 x 0 reduce 0 0 0 2 end",
             taken: [2, 1, 1, 0],
+            widest: 4,
         },
         Program {
             head: "qmpi 1 ranks 3 qubits 1 buffer",
-            body: "rank 0 alloc 0 h 0 t 0 moveto 0 1 1 movefrom 0 2 1 h 0 end rank 1 movefrom 0 0 1 s 0 moveto 0 2 1 end rank 2 movefrom 0 1 1 x 0 moveto 0 0 1 end",
+            body: "rank 0 alloc 0 h 0 t 0 moveto 0 1 1 movefrom 0 2 1 h 0 end \
+                rank 1 movefrom 0 0 1 s 0 moveto 0 2 1 end rank 2 movefrom 0 1 1 x 0 moveto 0 0 1 end",
             taken: [2, 2, 2, 0],
+            widest: 4,
         },
         Program {
             head: "qmpi 1 ranks 2 qubits 1 buffer",
             body: "rank 0 alloc 0 h 0 t 0 reachto 0 1 9 h 0 end rank 1 alloc 0 h 0 s 0 h 0 reachfrom 0 0 9 t 0 h 0 end",
             taken: [1, 1, 0, 0],
+            widest: 4,
         },
         Program {
             head: "qmpi 1 ranks 2 qubits 1 buffer",
-            body: "rank 0 alloc 0 h 0 measure 0 3 sendbit 3 1 2 copyto 0 1 4 end rank 1 recvbit 5 0 2 copyfrom 0 0 4 when 5 h 0 t 0 end own 0 b1",
+            body: "rank 0 alloc 0 h 0 measure 0 3 sendbit 3 1 2 copyto 0 1 4 end \
+                rank 1 recvbit 5 0 2 copyfrom 0 0 4 when 5 h 0 t 0 end own 0 b1",
             taken: [1, 0, 0, 0],
+            widest: 4,
         },
         Program {
             head: "qmpi 1 ranks 2 qubits 1 buffer",
             body: "rank 0 alloc 0 h 0 copyto 0 1 7 undofrom 0 1 8 t 0 h 0 end rank 1 copyfrom 0 0 7 s 0 undoto 0 0 8 end",
             taken: [1, 1, 0, 0],
+            widest: 4,
         },
         Program {
             head: "qmpi 1 ranks 2 qubits 2 buffer",
-            body: "rank 0 alloc 0 h 0 copyto 0 1 3 copyto 0 1 3 undofrom 0 1 4 undofrom 0 1 4 end rank 1 copyfrom 0 0 3 copyfrom 1 0 3 t 1 undoto 0 0 4 undoto 1 0 4 end",
+            body: "rank 0 alloc 0 h 0 copyto 0 1 3 copyto 0 1 3 undofrom 0 1 4 undofrom 0 1 4 end \
+                rank 1 copyfrom 0 0 3 copyfrom 1 0 3 t 1 undoto 0 0 4 undoto 1 0 4 end",
             taken: [2, 2, 0, 0],
+            widest: 4,
         },
         Program {
             head: "qmpi 1 ranks 3 qubits 3 buffer",
-            body: "rank 0 alloc 0 alloc 1 alloc 2 h 0 h 1 cx 1 2 t 2 scatter 0 0 3 gather 0 0 4 h 2 end rank 1 scatter 0 0 3 t 0 gather 0 0 4 end rank 2 scatter 0 0 3 h 0 gather 0 0 4 end",
+            body: "rank 0 alloc 0 alloc 1 alloc 2 h 0 h 1 cx 1 2 t 2 scatter 0 0 3 gather 0 0 4 h 2 end \
+                rank 1 scatter 0 0 3 t 0 gather 0 0 4 end rank 2 scatter 0 0 3 h 0 gather 0 0 4 end",
             taken: [4, 2, 2, 0],
+            widest: 3,
         },
         Program {
             head: "qmpi 1 ranks 2 qubits 2 buffer",
             body: "rank 0 alloc 0 x 0 moveto 0 1 1 movefrom 1 1 2 h 1 end rank 1 alloc 0 h 0 t 0 movefrom 1 0 1 moveto 0 0 2 h 1 end",
             taken: [2, 2, 0, 0],
+            widest: 4,
         },
         Program {
             head: "qmpi 1 ranks 4 qubits 1 buffer",
-            body: "all for i in rank..1 { alloc 0 h 0 t 0 } for i in 0..(rank + size - 1) / size { movefrom 0 rank - 1 1 } s 0 h 0 for i in 0..(2 * size - rank - 2) / size { moveto 0 rank + 1 1 } end",
+            body: "all for i in rank..1 { alloc 0 h 0 t 0 } \
+                for i in 0..(rank + size - 1) / size { movefrom 0 rank - 1 1 } s 0 h 0 \
+                for i in 0..(2 * size - rank - 2) / size { moveto 0 rank + 1 1 } end",
             taken: [2, 2, 2, 0],
+            widest: 4,
         },
         Program {
             head: "qmpi 1 ranks 2 qubits 2 buffer",
-            body: "rank 0 alloc 0 h 0 for i in 0..3 { t 0 reachto 0 1 i h 0 } end rank 1 alloc 0 alloc 1 h 1 for i in 0..3 { reachfrom 0 0 i cx 1 0 } end",
+            body: "rank 0 alloc 0 h 0 for i in 0..3 { t 0 reachto 0 1 i h 0 } end \
+                rank 1 alloc 0 alloc 1 h 1 for i in 0..3 { reachfrom 0 0 i cx 1 0 } end",
             taken: [3, 3, 0, 0],
+            widest: 4,
         },
     ]
 }
@@ -141,13 +167,12 @@ pub(super) fn text_of(
 }
 
 /// How many protocol tapes a program may have.
-pub(super) fn tapes_of(program: &Program) -> u32 {
+pub(super) fn tapes_of(rt: &impl Abort, program: &Program) -> u32 {
     let mut tapes = 1u32;
     for bits in program.taken {
         for _ in 0..bits {
-            if tapes < MOST_TAPES {
-                tapes *= 2;
-            }
+            assert!(rt; tapes < MOST_TAPES, "few tapes at {}", program.body);
+            tapes *= 2;
         }
     }
     tapes
@@ -181,7 +206,7 @@ fn every_order_and_every_tape_leave_the_one_circuits_state(rt: HostRuntime) -> R
     for program in programs() {
         let (code, due) = run(alloc, &mono, text_of(alloc, &program, 1, 0)?)?;
         assert_eq!(rt; code, 0, "at {}", program.body);
-        for number in 0..tapes_of(&program) {
+        for number in 0..tapes_of(&rt, &program) {
             let (code, found) = run(alloc, &plain, text_of(alloc, &program, 1, number)?)?;
             assert_eq!(rt; code, 0, "tape {number} at {}", program.body);
             assert!(rt; found == due, "tape {number} at {}", program.body);
@@ -198,10 +223,10 @@ fn every_order_and_every_tape_leave_the_one_circuits_state(rt: HostRuntime) -> R
 
 /// A machine of the programs of a text, before its first event.
 fn machine_of(rt: &impl Abort, alloc: Global, text: &[u8]) -> Result<Machine<PlainAmps>, Fail> {
-    assert!(rt; text.len() <= 1_048_576, "a short text");
+    assert!(rt; text.len() <= MOST_BYTES, "a short text");
     let ready = check(alloc, read(alloc, text)?)?;
     let capacity = ready.capacity();
-    assert!(rt; capacity <= 22, "a narrow store");
+    assert!(rt; capacity <= MOST_CAPACITY, "a narrow store");
     let amps = PlainAmps::start(alloc, capacity)?;
     Ok(Machine::start(alloc, ready, amps)?)
 }
@@ -215,9 +240,6 @@ fn most_held(machine: &Machine<PlainAmps>) -> u32 {
     most
 }
 
-/// No program has more ranks.
-const MOST_RANKS: u32 = 16;
-
 /// More turns than a run of these programs has.
 const MANY_TURNS: u32 = 1_000;
 
@@ -230,7 +252,7 @@ fn step_at(machine: &mut Machine<PlainAmps>, number: u32) -> Step {
 /// Steps the first rank that is neither ended nor blocked, from the word modulo the number of ranks on, in their cyclic order.
 fn turn(machine: &mut Machine<PlainAmps>, word: u32) {
     let start = word % u32::from(machine.ready().input().ranks());
-    for steps in 0..MOST_RANKS {
+    for steps in 0..u32::from(MOST_RANKS) {
         match step_at(machine, start + steps) {
             Step::Did { .. } | Step::Halted => return,
             Step::Blocked { .. } | Step::Ended => {}
@@ -253,17 +275,12 @@ fn most_ever_held(machine: &mut Machine<PlainAmps>, seed: u64) -> Option<u32> {
     None
 }
 
-/// Whether buffers of this size stand beside the slots of a program: three ranks with three slots leave 4 no room in a capacity of 20.
-fn has_room(program: &Program, buffer: u32) -> bool {
-    buffer < 4 || program.head != "qmpi 1 ranks 3 qubits 3 buffer"
-}
-
 // A pair is held at two ranks at once, so some rank always holds a half.
 #[test]
 fn no_rank_holds_more_halves_than_its_buffer(rt: HostRuntime) -> Result<(), Fail> {
     for program in programs() {
         for buffer in 1..5u32 {
-            if has_room(&program, buffer) {
+            if buffer <= program.widest {
                 let text = text_of(rt.alloc(), &program, u64::from(buffer), 5)?;
                 for seed in 0..20 {
                     let mut machine = machine_of(&rt, rt.alloc(), &text)?;
@@ -283,8 +300,12 @@ fn no_rank_holds_more_halves_than_its_buffer(rt: HostRuntime) -> Result<(), Fail
 /// Two ranks send five copies each to the third, which measures each and gives it up. Its buffer fills up, whatever its size.
 const FILLING: Program = Program {
     head: "qmpi 1 ranks 3 qubits 2 buffer",
-    body: "rank 0 alloc 0 h 0 for i in 0..5 { copyto 0 2 i } end rank 1 alloc 0 h 0 for i in 0..5 { copyto 0 2 i } end rank 2 for i in 0..5 { copyfrom 0 0 i copyfrom 1 1 i measure 0 0 measure 1 1 free 0 free 1 } end own 2 b0000000000",
+    body: "rank 0 alloc 0 h 0 for i in 0..5 { copyto 0 2 i } end \
+        rank 1 alloc 0 h 0 for i in 0..5 { copyto 0 2 i } end \
+        rank 2 for i in 0..5 { \
+        copyfrom 0 0 i copyfrom 1 1 i measure 0 0 measure 1 1 free 0 free 1 } end own 2 b0000000000",
     taken: [5, 5, 0, 0],
+    widest: 4,
 };
 
 #[test]
@@ -311,6 +332,7 @@ fn crossed_programs() -> [(Program, u64); 7] {
                 head: "qmpi 1 ranks 2 qubits 2 buffer",
                 body: "rank 0 alloc 0 copyto 0 1 1 copyfrom 1 1 1 end rank 1 alloc 0 copyto 0 0 1 copyfrom 1 0 1 end",
                 taken: [1, 1, 0, 0],
+                widest: 3,
             },
             2,
         ),
@@ -319,6 +341,7 @@ fn crossed_programs() -> [(Program, u64); 7] {
                 head: "qmpi 1 ranks 2 qubits 2 buffer",
                 body: "rank 0 alloc 0 moveto 0 1 1 movefrom 1 1 1 end rank 1 alloc 0 moveto 0 0 1 movefrom 1 0 1 end",
                 taken: [2, 2, 0, 0],
+                widest: 3,
             },
             2,
         ),
@@ -327,6 +350,7 @@ fn crossed_programs() -> [(Program, u64); 7] {
                 head: "qmpi 1 ranks 3 qubits 2 buffer",
                 body: "all alloc 0 copyto 0 (rank + 1) % size 1 copyfrom 1 (rank + 2) % size 1 end",
                 taken: [1, 1, 1, 0],
+                widest: 3,
             },
             2,
         ),
@@ -335,6 +359,7 @@ fn crossed_programs() -> [(Program, u64); 7] {
                 head: "qmpi 1 ranks 2 qubits 1 buffer",
                 body: "rank 0 copyfrom 0 1 1 copyto 0 1 1 end rank 1 copyfrom 0 0 1 copyto 0 0 1 end",
                 taken: [1, 1, 0, 0],
+                widest: 3,
             },
             0,
         ),
@@ -343,6 +368,7 @@ fn crossed_programs() -> [(Program, u64); 7] {
                 head: "qmpi 1 ranks 2 qubits 2 buffer",
                 body: "all alloc 0 alloc 1 reachto 0 1 - rank 1 reachfrom 1 1 - rank 1 end",
                 taken: [2, 2, 0, 0],
+                widest: 3,
             },
             0,
         ),
@@ -351,14 +377,17 @@ fn crossed_programs() -> [(Program, u64); 7] {
                 head: "qmpi 1 ranks 2 qubits 1 buffer",
                 body: "all recvbit 0 1 - rank 1 sendbit 0 1 - rank 1 end",
                 taken: [0, 0, 0, 0],
+                widest: 3,
             },
             0,
         ),
         (
             Program {
                 head: "qmpi 1 ranks 2 qubits 2 buffer",
-                body: "rank 0 alloc 0 copyto 0 1 1 copyfrom 1 1 1 undoto 1 1 2 undofrom 0 1 2 end rank 1 alloc 0 copyfrom 1 0 1 copyto 0 0 1 undoto 1 0 2 undofrom 0 0 2 end",
+                body: "rank 0 alloc 0 copyto 0 1 1 copyfrom 1 1 1 undoto 1 1 2 undofrom 0 1 2 end \
+                    rank 1 alloc 0 copyfrom 1 0 1 copyto 0 0 1 undoto 1 0 2 undofrom 0 0 2 end",
                 taken: [2, 2, 0, 0],
+                widest: 3,
             },
             0,
         ),
@@ -370,6 +399,7 @@ const BITS_CROSSED: Program = Program {
     head: "qmpi 1 ranks 2 qubits 1 buffer",
     body: "all set 0 1 sendbit 0 1 - rank 1 recvbit 1 1 - rank 1 end",
     taken: [0, 0, 0, 0],
+    widest: 3,
 };
 
 /// Whether `check` says of a program that it comes to its end with buffers of one.
@@ -395,22 +425,26 @@ fn seeds_that_end(alloc: Global, program: &Program, buffer: u64) -> Result<u32, 
     Ok(ended)
 }
 
+/// Tries that a program meets and ends, whatever the seed, with buffers of 1 to 3.
+fn try_seeds(rt: &impl Abort, alloc: Global, program: &Program) -> Result<(), Fail> {
+    for buffer in 1..4 {
+        assert!(rt; meets(alloc, program, buffer)?, "at {}", program.body);
+        assert_eq!(rt;
+            seeds_that_end(alloc, program, buffer)?,
+            50,
+            "buffers of {buffer} at {}",
+            program.body
+        );
+    }
+    Ok(())
+}
+
 #[test]
 fn what_ends_with_buffers_of_one_is_never_stuck(rt: HostRuntime) -> Result<(), Fail> {
     for program in programs() {
-        for buffer in 1..4 {
-            assert!(rt; meets(rt.alloc(), &program, buffer)?, "at {}", program.body);
-            assert_eq!(rt;
-                seeds_that_end(rt.alloc(), &program, buffer)?,
-                50,
-                "at {}",
-                program.body
-            );
-        }
+        try_seeds(&rt, rt.alloc(), &program)?;
     }
-    assert!(rt; meets(rt.alloc(), &BITS_CROSSED, 1)?);
-    assert_eq!(rt; seeds_that_end(rt.alloc(), &BITS_CROSSED, 1)?, 50);
-    Ok(())
+    try_seeds(&rt, rt.alloc(), &BITS_CROSSED)
 }
 
 #[test]

@@ -1,14 +1,11 @@
-use Rattle.std.proofs.Common.{refl, ◌∙◌, ℕ, Err, Bool, List, sym, ap, subst, arith}
+use Rattle.std.proofs.Common.{refl, ◌∙◌, Bool, sym, ap, subst, arith}
 use Rattle.qm_lex.specs.Lexing.{token_list}
 use Rattle.qm_lex.proofs.SpanLemmas.{tokens_of-LieIn}
 use Rattle.qm_parse.specs.declared.looks.Look.{Look}
-use Rattle.qm_parse.specs.declared.errors.ParseError.{ParseError}
-use Rattle.qm_lex.specs.declared.tokens.Token.{Token}
-use Rattle.qm_parse.specs.Parsing.{Parses}
-use Rattle.qm_parse.specs.Places.{place_of, AtGoal, Behind, Ends, Came}
+use Rattle.qm_parse.specs.Places.{place_of, AtGoal, Behind}
 use Rattle.qm_parse.proofs.Law.{ends-parses, comes-parses}
 use Rattle.qm_parse.specs.Verdicts.{verdict_of}
-use Rattle.qm_parse.proofs.LoopLemmas.{Decides, Going-start, Going-step, length-signs, Came-ends}
+use Rattle.qm_parse.proofs.LoopLemmas.{Decides, Going-start, Going-step, length-signs}
 use Rattle.qm_parse.proofs.reading.parse.Goals.{in-Take, in-Stay}
 use Rattle.qm_parse.proofs.reading.parse.Goals as goal
 
@@ -36,31 +33,26 @@ loop-goal-smaller c =
     ] in
     (Going-step _ _ _ _ _ _ _ c.loop-goal.invariant c.in-Some.ensures c.look_at-look.ensures.look c.look_at-look.ensures.few v c.in-Ok-go_on.ensures).1
 
-stopped : (text : List ℕ) (tokens : List Token) (e : ParseError) → Ends text tokens e → Parses text tokens (Err e) × Came text tokens (Err e)
-stopped text tokens e h = (ends-parses text tokens e h, Came-ends text tokens e h)
-
 pub returns-in-Stop : goal.returns-in-Stop
-returns-in-Stop c =
-    let o = stopped _ _ _ (record {
-      place = place_of c.loop-goal.reading;
-      reaches = c.loop-goal.invariant.reaches;
-      stop = c.in-Stop.stop;
-      halts = AtGoal _ _ _ c.in-Some.ensures (ap (λ (x : Look). verdict_of c.in-Some.goal x c.loop-goal.reading.depth) (sym c.look_at-look.ensures.look) ∙ sym c.verdict_of.ensures ∙ c.in-Stop.is);
-      error = c.error_at.ensures;
-    }) in record { parses = o.0; came = o.1 }
+returns-in-Stop c = ends-parses _ _ _ (record {
+  place = place_of c.loop-goal.reading;
+  reaches = c.loop-goal.invariant.reaches;
+  stop = c.in-Stop.stop;
+  halts = AtGoal _ _ _ c.in-Some.ensures (ap (λ (x : Look). verdict_of c.in-Some.goal x c.loop-goal.reading.depth) (sym c.look_at-look.ensures.look) ∙ sym c.verdict_of.ensures ∙ c.in-Stop.is);
+  error = c.error_at.ensures;
+})
 
 pub returns-then-reading-len : goal.returns-then-reading-len
-returns-then-reading-len c =
-    let o = stopped _ _ _ (record {
-      place = place_of c.loop-goal.reading;
-      reaches = c.loop-goal.invariant.reaches;
-      stop = _;
-      halts = Behind c.in_default-pop.ensures (omega (arith, length-signs c.args.text.now (token_list c.args.tokens.now), c.len.ensures));
-      error = c.error_at-then-reading-len.ensures;
-    }) in record { parses = o.0; came = o.1 }
+returns-then-reading-len c = ends-parses _ _ _ (record {
+  place = place_of c.loop-goal.reading;
+  reaches = c.loop-goal.invariant.reaches;
+  stop = _;
+  halts = Behind c.in_default-pop.ensures (omega (arith, length-signs c.args.text.now (token_list c.args.tokens.now), c.len.ensures));
+  error = c.error_at-then-reading-len.ensures;
+})
 
-pub returns-clause-parses : goal.returns-clause-parses
-returns-clause-parses c = comes-parses _ _ _ (length-signs c.args.text.now (token_list c.args.tokens.now)) (record {
+pub returns : goal.returns
+returns c = comes-parses _ _ _ (length-signs c.args.text.now (token_list c.args.tokens.now)) (record {
   place = place_of c.loop-goal.reading;
   reaches = c.loop-goal.invariant.reaches;
   done = c.in_default-pop.ensures;

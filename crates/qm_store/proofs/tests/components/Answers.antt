@@ -19,3 +19,21 @@ pub value-z-requires-in-len3-clause-live : goal.value-z-requires-in-len3-clause-
 value-z-requires-in-len3-clause-live g c = λ k d h.
     let all = c.are_live.ensures c.if-are_live.true in
     each_of_three (Contains (g.A.Amps.store c.args.amps.now).live) _ _ _ d k all.3 all.4 all.5 h
+
+each_of_four : (P : Wire → Type 0) (t u v w d : Wire) (k : ℕ) → P t → P u → P v → P w → k < 4 → P (get_or (t ∷ u ∷ v ∷ w ∷ []) k d)
+each_of_four P t u v w d zero at_t at_u at_v at_w h = at_t
+each_of_four P t u v w d (suc k) at_t at_u at_v at_w h = each_of_three P u v w d k at_u at_v at_w (omega arith)
+
+each_of_five : (P : Wire → Type 0) (s t u v w d : Wire) (k : ℕ) → P s → P t → P u → P v → P w → k < 5 → P (get_or (s ∷ t ∷ u ∷ v ∷ w ∷ []) k d)
+each_of_five P s t u v w d zero at_s at_t at_u at_v at_w h = at_s
+each_of_five P s t u v w d (suc k) at_s at_t at_u at_v at_w h = each_of_four P t u v w d k at_t at_u at_v at_w (omega arith)
+
+pub value-z-requires-in-len4-clause-live : goal.value-z-requires-in-len4-clause-live
+value-z-requires-in-len4-clause-live g c = λ k d h.
+    let all = c.four_live.ensures c.if-four_live.true in
+    each_of_four (Contains (g.A.Amps.store c.args.amps.now).live) _ _ _ _ d k all.6 all.7 all.8 all.9 h
+
+pub value-z-requires-in-len5-clause-live : goal.value-z-requires-in-len5-clause-live
+value-z-requires-in-len5-clause-live g c = λ k d h.
+    let all = c.five_live.ensures c.if-five_live.true in
+    each_of_five (Contains (g.A.Amps.store c.args.amps.now).live) _ _ _ _ _ d k all.10 all.11 all.12 all.13 all.14 h

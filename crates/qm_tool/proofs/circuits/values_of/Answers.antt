@@ -17,7 +17,7 @@ pub returns-clause-due : goal.returns-clause-due
 returns-clause-due c =
     let full = c.in_ok-live.ensures.slots ∙ ap (λ (p : Programs). full_slots p (slot_of c.args.circuit.now)) c.input.ensures.value in
     record {
-      due = amplitudes-answer c.args.ready.now c.args.circuit.now c.requires.one _ _ _ _ (omega (arith, c.width-width.ensures, c.if-width-gt-MOST_WIRES.false)) c.in-Ok.ensures.ok
+      due = amplitudes-answer c.args.ready.now c.args.circuit.now c.requires.one _ _ _ _ (omega (arith, c.width-width.ensures, c.if-width-gt-MOST_CAPACITY_1.false)) c.in-Ok.ensures.ok
           (omega (arith, c.exponent.ensures, c.protocol_total.ensures)) c.head_of-head.ensures full;
     }
 

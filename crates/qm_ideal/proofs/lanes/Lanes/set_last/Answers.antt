@@ -1,7 +1,7 @@
 use Rattle.std.proofs.Common.{◌∙◌, ◌≡◌, ◌<◌, IsSome, false, true, sym, ap, subst}
 use Rattle.std.specs.Option.{option_copied_mut}
 use Rattle.std.proofs.Common.{deque_len}
-use Rattle.qm_ideal.specs.Lanes.{last_set}
+use Rattle.qm_ideal.specs.Meetings.{last_set}
 use Rattle.qm_ideal.proofs.LaneLemmas.{written, last_put, last_none, none_set}
 use Rattle.qm_ideal.proofs.lanes.Lanes.set_last.Goals as goal
 

@@ -1,9 +1,10 @@
--- When a rank may do an act: what must be there for it, and how much room it takes
+-- What an act needs so that code with bounded counters and tables can do it: what must be there for it, and how much room it takes
 use Rattle.std.specs.Prelude.{◌≡◌, ◌≢◌, ℕ, ◌+◌, ◌-◌, ◌<◌, ◌≤◌, ◌^◌, List, [], ◌∷◌, None, length}
 use Rattle.qm_denot.specs.declared.Wire.{Wire}
 use Rattle.qm_denot.specs.Wires.{no_wires}
 use Rattle.qm_denot.specs.declared.Letter.{Letter}
 use Rattle.qm_denot.specs.declared.Letter.TheVariants.{Phase, Flip, Had, Cx, Cz, Pair, Keep, Take, Rename}
+use Rattle.qm_limits.specs.declared.TheConstants.{SLOTS, MOST_HALVES, BITS}
 use Rattle.qm_instr.specs.declared.Lane.{Lane}
 use Rattle.qm_denot.specs.Parcels.{IsFillable}
 use Rattle.qm_proto.specs.Model.State.{Tables, far_made, near_made, near_last, front}
@@ -48,17 +49,18 @@ MayLetter r (Rename a b) t = ⊥
 
 -- slot q of rank r is empty, the wire that the rank's count names has no place, and there is room for it
 pub record MayFresh (s : Limits) (r q : ℕ) (t : Tables) : Type 0 where
-  pub slot : q < 16
+  pub slot : q < SLOTS
   pub empty : t.slots r q ≡ None
   pub absent : ¬ IsPlaced t (far_made t r)
   pub room : 1 ≤ s.wires
   pub countable : (t.parts r).made + 1 < 2 ^ 32
 
--- the rank has no near half and the receiver fewer than 8 far ones, the new halves have no places, and there is room for both
+-- the receiver is a rank and has fewer halves than a buffer may hold; the rank has no near half; the new halves have no places, and there
+-- is room for both
 pub record MayTwin (s : Limits) (r to : ℕ) (t : Tables) : Type 0 where
   pub known : to < s.ranks
   pub alone : t.near r ≡ no_wires
-  pub few : t.held to < 8
+  pub few : t.held to < MOST_HALVES
   pub near_absent : ¬ IsPlaced t (near_made t r)
   pub far_absent : ¬ IsPlaced t (far_made t r)
   pub room : 2 ≤ s.wires
@@ -67,7 +69,7 @@ pub record MayTwin (s : Limits) (r to : ℕ) (t : Tables) : Type 0 where
 
 -- a wire is in slot q of rank r, and nowhere else
 pub record MaySlotOut (s : Limits) (r q : ℕ) (t : Tables) : Type 0 where
-  pub slot : q < 16
+  pub slot : q < SLOTS
   pub wire : Wire
   pub only : IsOnlyAt t wire (InSlot r q)
   pub letter : 1 ≤ s.letters
@@ -79,7 +81,7 @@ pub record MayHalfOut (s : Limits) (w : Wire) (p : Place) (t : Tables) : Type 0 
 
 -- f is a far half of rank r and nowhere else, and slot q is empty
 pub record MaySettle (r : ℕ) (f : Wire) (q : ℕ) (t : Tables) : Type 0 where
-  pub slot : q < 16
+  pub slot : q < SLOTS
   pub only : IsOnlyAt t f (FarOf r)
   pub empty : t.slots r q ≡ None
 
@@ -98,7 +100,7 @@ MayDo s r (Receives a) t = (front t a).bits ≢ None
 MayDo s r OwnUsed t = 0 < length (t.parts r).own
 MayDo s r ProtocolUsed t = 0 < length (t.parts r).protocol
 MayDo s r (FirstKept m) t = Unit {0}
-MayDo s r (BitSet b v) t = b < 32
+MayDo s r (BitSet b v) t = b < BITS
 
 -- what an act leaves of the limits
 abbrev pub limits_after : Act → Limits → Limits

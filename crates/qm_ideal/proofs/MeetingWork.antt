@@ -1,5 +1,5 @@
--- The run of the lowest enabled ranks exists, where each step makes a number smaller, and is one at most
-use Rattle.std.proofs.Common.{◌≡◌, ◌≢◌, ◌∙◌, ℕ, zero, suc, ◌+◌, ◌-◌, ◌*◌, ◌<◌, ◌≤◌, nat_lt, Bool, true, false, List, [], ◌∷◌, length, Option, Some, None, slice_get, inl, inr, refl, sym, ap, subst, arith}
+-- Each step of the run with buffers of one leaves less work, and the run is one at most
+use Rattle.std.proofs.Common.{◌≡◌, ◌≢◌, ◌∙◌, ℕ, ◌+◌, ◌-◌, ◌*◌, ◌<◌, ◌≤◌, nat_lt, true, false, List, [], ◌∷◌, length, Option, Some, None, slice_get, refl, sym, ap, subst, arith}
 use Rattle.std.proofs.lemmas.Option.{slice_get_within}
 use Rattle.qm_instr.specs.declared.Instr.{Instr}
 use Rattle.qm_instr.specs.declared.Instr.TheVariants as instr
@@ -9,57 +9,14 @@ use Rattle.qm_proto.specs.declared.Row.{Row}
 use Rattle.qm_proto.specs.Model.State.{Part, Tables}
 use Rattle.qm_proto.specs.Model.Acts.{all_done, list_of}
 use Rattle.qm_proto.specs.Model.Rows.{current, rows}
-use Rattle.qm_proto.specs.Model.Runs.{row_in, row_next, row_holds, enabled, moved_on, events_at, row_done, next_tables}
-use Rattle.qm_proto.specs.Model.Schedules.{tables_at_start, with_buffers_of_one, IsMeetingFrom}
-use Rattle.qm_proto.specs.Model.Ideal.{IdealState, ideal_enabled, ideal_next, ideal_at_start, IsOneFrom, IsOneRun}
+use Rattle.qm_proto.specs.Model.Runs.{row_in, row_holds, moved_on, events_at, row_done, next_tables}
+use Rattle.qm_proto.specs.Model.Schedules.{IsMeetingFrom}
 use Rattle.qm_proto.proofs.Changes.{by_test, by_number, with_at-here, with_at-elsewhere}
-use Rattle.qm_proto.proofs.Firsts.{one_run_unique, lowest_enabled_unique}
+use Rattle.qm_proto.proofs.Firsts.{lowest_enabled_unique}
 use Rattle.qm_proto.proofs.Positions.{all_at_kept, all_stage_kept}
-use Rattle.qm_runs.proofs.Confluence.Confluent.{least, IsLeast}
-use Rattle.qm_ideal.specs.Existence.{OneRunLaw, RendezvousRunLaw}
-use Rattle.qm_ideal.specs.OneRuns.{instructions_left}
-use Rattle.qm_ideal.proofs.OneRunLemmas.{left_falls}
 use Rattle.qm_runs.proofs.Tables.Lines.{rows_count}
 use Rattle.qm_runs.proofs.Tables.Sums.{sum_below-lt}
 use Rattle.qm_runs.specs.Tables.Totals.{sum_below}
-
--- ---- any machine of n ranks
-module _ {S : Type 0} (able : S → ℕ → Bool) (next : S → ℕ → S) (n : ℕ) where
-  abbrev Takes : S → List ℕ → Type 0
-  Takes s [] = (r : ℕ) → r < n → able s r ≡ false
-  Takes s (r ∷ rs) = IsLeast (able s) n r × Takes (next s r) rs
-
-  some_run : (left : S → ℕ) → ((s : S) (r : ℕ) → IsLeast (able s) n r → left (next s r) < left s)
-      → (k : ℕ) (s : S) → left s ≤ k → (rs : List ℕ) × Takes s rs
-  some_run left falls zero s few = elim (least (able s) n) [
-    | inl none ↦ ([], none)
-    | inr (r, low) ↦ absurd (let less = falls s r low in omega (arith, less, few))
-  ]
-  some_run left falls (suc k) s few = elim (least (able s) n) [
-    | inl none ↦ ([], none)
-    | inr (r, low) ↦
-        let less = falls s r low in
-        let rest = some_run left falls k (next s r) (omega (arith, less, few)) in
-        (r ∷ rest.0, (low, rest.1))
-  ]
-
--- ---- the ideal machine
-module _ (p : Programs) where
-  one_from_takes : (rs : List ℕ) (s : IdealState) → Takes (λ (s : IdealState). ideal_enabled p s.tables) (ideal_next p) (length p.ranks) s rs → IsOneFrom p s rs
-  one_from_takes [] s run = run
-  one_from_takes (r ∷ rs) s run = (record { known = run.0.below; able = run.0.here; below = run.0.less }, one_from_takes rs (ideal_next p s r) run.1)
-
-  some_one_run : (rs : List ℕ) × IsOneRun p rs
-  unfolding IsOneRun
-  some_one_run =
-      let s = ideal_at_start p in
-      let run = some_run (λ (s : IdealState). ideal_enabled p s.tables) (ideal_next p) (length p.ranks) (λ (s : IdealState). instructions_left p s.tables)
-      (λ s r low. left_falls p s (ideal_next p s r) r (record { known = low.below; able = low.here; below = low.less }) refl)
-      (instructions_left p s.tables) s (omega arith) in
-      (run.0, one_from_takes run.0 s run.1)
-
-pub one_run : OneRunLaw
-one_run p = record { some = some_one_run p; one = one_run_unique p }
 
 -- ---- the machine with letters left aside
 pub events_few : (i : Instr) → events_of i ≤ 5
@@ -129,17 +86,6 @@ module _ (p : Programs) where
         (λ k below. by_number (λ k. w u k ≤ w t k) r (let less = here_falls in omega (arith, less)) (λ k other. let e = work_elsewhere k other in omega (arith, e)) k)
         known here_falls
 
-  meeting_from_takes : (rs : List ℕ) (t : Tables) → Takes (enabled p) (next_tables p) (length p.ranks) t rs → IsMeetingFrom p t rs
-  meeting_from_takes [] t run = run
-  meeting_from_takes (r ∷ rs) t run = (record { known = run.0.below; able = run.0.here; below = run.0.less }, meeting_from_takes rs (next_tables p t r) run.1)
-
-  some_meeting : (t : Tables) → (rs : List ℕ) × IsMeetingFrom p t rs
-  some_meeting t =
-      let run = some_run (enabled p) (next_tables p) (length p.ranks) work_left
-      (λ t r low. work_left_falls t r (next_row p t r (current p t r) refl (row_next p t r) refl low.here) low.below)
-      (work_left t) t (omega arith) in
-      (run.0, meeting_from_takes run.0 t run.1)
-
   pub one_meeting : (xs ys : List ℕ) (t : Tables) → IsMeetingFrom p t xs → IsMeetingFrom p t ys → xs ≡ ys
   one_meeting [] [] t a b = refl
   one_meeting [] (y ∷ ys) t a b = let e = a y b.0.known in let d = b.0.able in cc
@@ -147,8 +93,3 @@ module _ (p : Programs) where
   one_meeting (x ∷ xs) (y ∷ ys) t a b =
       let same = lowest_enabled_unique p t x y a.0 b.0 in
       ap (λ r. r ∷ xs) same ∙ ap (λ rs. y ∷ rs) (one_meeting xs ys (next_tables p t y) (subst (λ r. IsMeetingFrom p (next_tables p t r) xs) same a.1) b.1)
-
-pub one_rendezvous_run : RendezvousRunLaw
-one_rendezvous_run p =
-    let q = with_buffers_of_one p in
-    record { some = some_meeting q (tables_at_start q); one = λ xs ys a b. one_meeting q xs ys (tables_at_start q) a b }

@@ -1,5 +1,0 @@
-use Rattle.qm_ideal.proofs.RunsExist as runs
-use Rattle.qm_ideal.proofs.laws.one_run_law.Goals as goal
-
-pub returns : goal.returns
-returns c = runs.one_run
