@@ -8,13 +8,15 @@ use Rattle.qm_buffers.specs.declared.Buffer.{Buffer}
 use Rattle.qm_buffers.specs.Halves.{empty_buffer, buffer_at, with_held}
 
 -- a buffer with a number that isn't 0, as an empty one's is, is in the list
-pub in_list : (f : Buffer → ℕ) → f (empty_buffer 0) ≡ 0 → (bs : List Buffer) (r : ℕ) → 0 < f (buffer_at bs r) → r < length bs
+pub in_list : (f : Buffer → ℕ) → f (empty_buffer 0) ≡ 0 → (bs : List Buffer) (r : ℕ)
+    → 0 < f (buffer_at bs r) → r < length bs
 in_list f none [] r some = absurd (omega (arith, some, none))
 in_list f none (b ∷ bs) zero some = omega arith
 in_list f none (b ∷ bs) (suc r) some = let before : r < length bs = in_list f none bs r some in omega arith
 
 -- so it is among the first n buffers where the list is these
-pub below : (f : Buffer → ℕ) → f (empty_buffer 0) ≡ 0 → (bs now : List Buffer) (n r : ℕ) → take n bs ≡ now → 0 < f (buffer_at now r) → r < n
+pub below : (f : Buffer → ℕ) → f (empty_buffer 0) ≡ 0 → (bs now : List Buffer) (n r : ℕ)
+    → take n bs ≡ now → 0 < f (buffer_at now r) → r < n
 below f none bs now n r is some =
     let listed : r < length (take n bs) = subst (λ xs. r < length xs) (sym is) (in_list f none now r some) in
     omega (arith, length-take n bs)
@@ -32,7 +34,8 @@ changed bs now n i r f is same few =
 
 -- ---- other counts
 -- the count of one rank changes, and no size
-pub held_with : (bs : List Buffer) (r n k : ℕ) → r < length bs → (buffer_at (with_held bs r n) k).held ≡ cond (nat_eq k r) n (buffer_at bs k).held
+pub held_with : (bs : List Buffer) (r n k : ℕ) → r < length bs
+    → (buffer_at (with_held bs r n) k).held ≡ cond (nat_eq k r) n (buffer_at bs k).held
 held_with bs r n k below =
     let new : Buffer = record (buffer_at bs r) { held = n } in
     elim (nat_eq k r) as (λ b. nat_eq k r ≡ b → (buffer_at (with_held bs r n) k).held ≡ cond b n (buffer_at bs k).held) [
@@ -43,7 +46,8 @@ held_with bs r n k below =
           (get_or-set_other bs r k new (empty_buffer 0) (λ same. let h : nat_eq k r ≡ true = eq-eqb k r same in let f : ⊥ = cc in f))
     ] refl
 
-pub sizes_with : (bs : List Buffer) (r n : ℕ) → map (λ (b : Buffer). b.size) (with_held bs r n) ≡ map (λ (b : Buffer). b.size) bs
+pub sizes_with : (bs : List Buffer) (r n : ℕ)
+    → map (λ (b : Buffer). b.size) (with_held bs r n) ≡ map (λ (b : Buffer). b.size) bs
 sizes_with [] r n = refl
 sizes_with (b ∷ bs) zero n = refl
 sizes_with (b ∷ bs) (suc r) n = ap (λ ns. b.size ∷ ns) (sizes_with bs r n)

@@ -7,14 +7,11 @@ ghost use Rattle.qm_buffers.specs.Halves.{buffer_at, empty_buffer, with_held};
 use qm_limits::{MOST_HALVES, MOST_RANKS};
 use std::marker::Model;
 
-#[cfg(test)]
-mod tests;
-
 /// How many ranks there may be, as the length of a list.
 const RANKS: usize = MOST_RANKS as usize;
 
 /// A rank's buffer: how many halves it may hold, and how many it holds.
-#[derive(Clone, Copy, PartialEq, Eq, Debug)]
+#[derive(Clone, Copy)]
 pub struct Buffer {
     pub size: u8,
     pub held: u8,

@@ -11,7 +11,7 @@ use Rattle.qm_check.specs.declared.Fault.{Fault}
 use Rattle.qm_check.specs.declared.Fault.TheVariants as fault
 use Rattle.qm_check.specs.declared.Uses.{Uses}
 use Rattle.qm_check.specs.declared.Uses.TheVariants.{Nothing, Fills, Keeps, Empties, Joins}
-use Rattle.qm_check.specs.Checks.{IsReady, Step, Tape}
+use Rattle.qm_check.specs.Checks.{IsReady, AtInstr, OnTape}
 use Rattle.qm_check.specs.Messages.{posts_on, posts_in}
 use Rattle.qm_check.specs.Operands.{uses_of, partner_of}
 use Rattle.qm_check.specs.Slots.{HasFewSlots, is_full_after, full_after, partner_fault, slot_fault, fault_if_any}
@@ -54,7 +54,8 @@ FindsSlots full (Keeps q) = full q ≡ true
 FindsSlots full (Empties q) = full q ≡ true
 FindsSlots full (Joins c t) = (c ≢ t) × (full c ≡ true) × (full t ≡ true)
 
-slots_sound : (r k : ℕ) (full : ℕ → Bool) (u : Uses) → slot_fault r k full u ≡ None → FindsSlots full u
+slots_sound : (r k : ℕ) (full : ℕ → Bool) (u : Uses) → slot_fault r k full u ≡ None
+    → FindsSlots full u
 slots_sound r k full Nothing e = tt
 slots_sound r k full (Fills q) e = false_where_none (fault.SlotFull r k) (full q) e
 slots_sound r k full (Keeps q) e = true_where_none (fault.SlotEmpty r k) (full q) e
@@ -69,7 +70,8 @@ slots_sound r k full (Joins c t) e = by_same (c == t) refl e
         let both = and_parts (full c) (full t) (true_where_none (fault.SlotEmpty r k) (full c && full t) e) in
         (eqb-false c t s, both.0, both.1)
 
-pub posts-take-le : (r : ℕ) (a : Lane) (is : List Instr) (k : ℕ) → posts_in r a (take k is) ≤ posts_in r a is
+pub posts-take-le : (r : ℕ) (a : Lane) (is : List Instr) (k : ℕ)
+    → posts_in r a (take k is) ≤ posts_in r a is
 posts-take-le r a is k = sum_by-take-le (λ i. cond (posts_on r i a) 1 0) is k
 
 -- ---- instruction k of rank r
@@ -82,11 +84,13 @@ pub record IsStep (p : Programs) (r k : ℕ) (i : Instr) : Type 0 where
   pub partner : (d : ℕ) → partner_of i ≡ Some d → IsOtherRank (length p.ranks) r d
   pub slots : FindsSlots (full_after (before p r k)) (uses_of i)
   pub few : HasFewSlots (uses_of i)
-  pub full : (q : ℕ) → full_after (before p r (k + 1)) q ≡ is_full_after q (full_after (before p r k) q) (uses_of i)
+  pub full : (q : ℕ)
+      → full_after (before p r (k + 1)) q ≡ is_full_after q (full_after (before p r k) q) (uses_of i)
   pub protocol : sum_by protocol_of (before p r (k + 1)) ≡ sum_by protocol_of (before p r k) + protocol_of i
   pub protocol_few : sum_by protocol_of (before p r (k + 1)) ≤ sum_by protocol_of (rank_of p r).instructions
   pub own : sum_by own_of (before p r (k + 1)) ≡ sum_by own_of (before p r k) + own_of i
-  pub posts : (a : Lane) → posts_in r a (before p r (k + 1)) ≡ posts_in r a (before p r k) + cond (posts_on r i a) 1 0
+  pub posts : (a : Lane)
+      → posts_in r a (before p r (k + 1)) ≡ posts_in r a (before p r k) + cond (posts_on r i a) 1 0
 
 pub step_of : (p : Programs) (r k : ℕ) (i : Instr) → IsReady p → IsInRange p → r < length p.ranks
     → slice_get (rank_of p r).instructions k ≡ Some i → IsStep p r k i
@@ -94,7 +98,7 @@ step_of p r k i ready ranges known read =
     let is = (rank_of p r).instructions in
     let full = full_after (before p r k) in
     let sound : fault_if_any (length p.ranks) r k full (Some i) ≡ None =
-    subst (λ o. fault_if_any (length p.ranks) r k full o ≡ None) read (ready (Step r k)) in
+    subst (λ o. fault_if_any (length p.ranks) r k full o ≡ None) read (ready (AtInstr r k)) in
     let parts = neither (partner_fault (length p.ranks) r k (partner_of i)) (slot_fault r k full (uses_of i)) sound in
     record {
       partner = λ d e. partner_sound (length p.ranks) r k d (subst (λ o. partner_fault (length p.ranks) r k o ≡ None) e parts.0);
@@ -108,11 +112,14 @@ step_of p r k i ready ranges known read =
     }
 
 -- ---- tapes are as long as their needs
-tape_sound : (r : ℕ) (own : Bool) (needs has : ℕ) → length_fault r own needs has ≡ None → needs ≡ has
+tape_sound : (r : ℕ) (own : Bool) (needs has : ℕ) → length_fault r own needs has ≡ None
+    → needs ≡ has
 tape_sound r own needs has e = eqb-true needs has (true_where_none (fault.TapeLength r own needs has) (needs == has) e)
 
-pub own_length : (p : Programs) (r : ℕ) → IsReady p → sum_by own_of (rank_of p r).instructions ≡ length (rank_of p r).own
-own_length p r ready = tape_sound r true (sum_by own_of (rank_of p r).instructions) (length (rank_of p r).own) (ready (Tape r true))
+pub own_length : (p : Programs) (r : ℕ) → IsReady p
+    → sum_by own_of (rank_of p r).instructions ≡ length (rank_of p r).own
+own_length p r ready = tape_sound r true (sum_by own_of (rank_of p r).instructions) (length (rank_of p r).own) (ready (OnTape r true))
 
-pub protocol_length : (p : Programs) (r : ℕ) → IsReady p → sum_by protocol_of (rank_of p r).instructions ≡ length (rank_of p r).protocol
-protocol_length p r ready = tape_sound r false (sum_by protocol_of (rank_of p r).instructions) (length (rank_of p r).protocol) (ready (Tape r false))
+pub protocol_length : (p : Programs) (r : ℕ) → IsReady p
+    → sum_by protocol_of (rank_of p r).instructions ≡ length (rank_of p r).protocol
+protocol_length p r ready = tape_sound r false (sum_by protocol_of (rank_of p r).instructions) (length (rank_of p r).protocol) (ready (OnTape r false))

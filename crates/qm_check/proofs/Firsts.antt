@@ -1,26 +1,51 @@
--- The first fault, found in the order of the places
-use Rattle.std.proofs.Common.{◌≡◌, ℕ, ◌+◌, ◌<◌, true, false, Option, Some, None, is_some, ap, ◌∙◌, ⊎_elim, below_more}
+-- The first fault, found in the order of the sites
+use Rattle.std.proofs.Common.{◌≡◌, ℕ, ◌+◌, ◌<◌, ◌≤◌, true, Option, Some, None, is_some, refl, ap, ◌∙◌, ⊎_elim, below_more}
+use Rattle.std.proofs.lemmas.Bool.{cases_lt}
+use Rattle.std.specs.Option.{option_or}
 use Rattle.qm_check.specs.declared.Fault.{Fault}
 use Rattle.qm_check.specs.Faults.{IsFirst, IsBelow, IsEarlierStep}
 
--- the fault at a place is the first, if the places before it have none
-pub first_here : {A : Type 0} (IsBefore : A → A → Type 0) (fault_at : A → Option Fault) (a : A) (o : Option Fault) → fault_at a ≡ o → is_some o ≡ true → ((b : A) → IsBefore b a → fault_at b ≡ None) → IsFirst IsBefore fault_at o
-first_here IsBefore fault_at a None here some before = cc
-first_here IsBefore fault_at a (Some f) here some before = (a, here, before)
+-- the first of the faults at sites below number n, where there is one
+abbrev pub IsFoundBelow : (ℕ → Option Fault) → ℕ → Option Fault → Type 0
+IsFoundBelow fault_at n None = (k : ℕ) → k < n → fault_at k ≡ None
+IsFoundBelow fault_at n (Some f) = IsFirst IsBelow fault_at (Some f)
 
--- no place in a row before number r has a fault
+-- one site more
+pub found_more : (fault_at : ℕ → Option Fault) (n : ℕ) (o x : Option Fault)
+    → IsFoundBelow fault_at n o → fault_at n ≡ x → IsFoundBelow fault_at (n + 1) (option_or o x)
+found_more fault_at n None None found here = below_more (λ (k : ℕ). fault_at k ≡ None) n found here
+found_more fault_at n None (Some f) found here = (n, here, found)
+found_more fault_at n (Some g) x found here = found
+
+-- no site is left
+pub found_all : (fault_at : ℕ → Option Fault) (n : ℕ) (o : Option Fault)
+    → IsFoundBelow fault_at n o → ((k : ℕ) → n ≤ k → fault_at k ≡ None)
+    → IsFirst IsBelow fault_at o
+found_all fault_at n None found past = λ k. ⊎_elim (found k) (past k) (cases_lt k n)
+found_all fault_at n (Some f) found past = found
+
+-- no site in a row before number r has a fault
 abbrev pub NoneBefore : (ℕ → ℕ → Option Fault) → ℕ → Type 0
 NoneBefore fault_at r = (s : ℕ) → s < r → (k : ℕ) → fault_at s k ≡ None
 
 -- the first fault of a row is the first of all, if the rows before it have none
-pub first_in_row : (fault_at : ℕ → ℕ → Option Fault) (r : ℕ) (o : Option Fault) → IsFirst IsBelow (fault_at r) o → is_some o ≡ true → NoneBefore fault_at r → IsFirst IsEarlierStep (λ s. fault_at s.0 s.1) o
+pub first_in_row : (fault_at : ℕ → ℕ → Option Fault) (r : ℕ) (o : Option Fault)
+    → IsFirst IsBelow (fault_at r) o → is_some o ≡ true → NoneBefore fault_at r
+    → IsFirst IsEarlierStep (λ s. fault_at s.0 s.1) o
 first_in_row fault_at r None row some before = cc
 first_in_row fault_at r (Some f) row some before =
     let earlier : (b : ℕ × ℕ) → IsEarlierStep b (r, row.0) → fault_at b.0 b.1 ≡ None = λ b e. ⊎_elim (λ lower. before b.0 lower b.1) (λ same. ap (λ (s : ℕ). fault_at s b.1) same.0 ∙ row.2 b.1 same.1) e in
     ((r, row.0), row.1, earlier)
 
--- a row without a fault
-pub none_before_more : (fault_at : ℕ → ℕ → Option Fault) (r : ℕ) (o : Option Fault) → IsFirst IsBelow (fault_at r) o → is_some o ≡ false → NoneBefore fault_at r → NoneBefore fault_at (r + 1)
-none_before_more fault_at r None row none before =
-    below_more (λ (s : ℕ). (k : ℕ) → fault_at s k ≡ None) r before row
-none_before_more fault_at r (Some f) row none before = cc
+-- the first of the faults in the rows before number r, where there is one
+abbrev pub IsFoundInRows : (ℕ → ℕ → Option Fault) → ℕ → Option Fault → Type 0
+IsFoundInRows fault_at r None = NoneBefore fault_at r
+IsFoundInRows fault_at r (Some f) = IsFirst IsEarlierStep (λ s. fault_at s.0 s.1) (Some f)
+
+-- one row more
+pub rows_more : (fault_at : ℕ → ℕ → Option Fault) (r : ℕ) (o x : Option Fault)
+    → IsFoundInRows fault_at r o → IsFirst IsBelow (fault_at r) x
+    → IsFoundInRows fault_at (r + 1) (option_or o x)
+rows_more fault_at r None None found row = below_more (λ (s : ℕ). (k : ℕ) → fault_at s k ≡ None) r found row
+rows_more fault_at r None (Some f) found row = first_in_row fault_at r (Some f) row refl found
+rows_more fault_at r (Some g) x found row = found

@@ -1,10 +1,10 @@
 pub mod Firsts
-pub mod LaneLemmas
-pub mod Places
+mod LaneLemmas
+pub mod Sites
 pub mod PostLanes
 pub mod Faultless
 pub mod SlotLemmas
-pub mod TallyLemmas
-pub mod TapeLemmas
+mod TallyLemmas
+mod TapeLemmas
 pub mod TotalLemmas
 pub mod FirstFaults

@@ -24,5 +24,6 @@ posts_on-lane r (instr.ReachFrom t from tag) a = refl
 posts_on-lane r _ a = refl
 
 -- the instructions that post on a lane, by that
-pub posts_in-lane : (r : ℕ) (a : Lane) (is : List Instr) → posts_in r a is ≡ count_by (λ i. is_on (post_lane r i) a) is
+pub posts_in-lane : (r : ℕ) (a : Lane) (is : List Instr)
+    → posts_in r a is ≡ count_by (λ i. is_on (post_lane r i) a) is
 posts_in-lane r a is = ap (λ (p : Instr → Bool). count_by p is) (fun_ext (λ i. posts_on-lane r i a))

@@ -1,5 +1,5 @@
 -- Slots that are full or empty, and the faults of single instructions
-use Rattle.std.proofs.Common.{◌≡◌, ℕ, ◌+◌, ◌<◌, ◌≤◌, Bool, true, false, List, [], ◌∷◌, length, get_or, take, is_some, below_more, Option, Some, None, slice_get, refl, sym, ap, subst, ◌∙◌, arith, All, ⊎_elim}
+use Rattle.std.proofs.Common.{◌≡◌, ℕ, ◌+◌, ◌<◌, ◌≤◌, Bool, false, List, [], ◌∷◌, length, get_or, take, Option, Some, None, slice_get, refl, sym, ap, subst, ◌∙◌, arith, All, ⊎_elim}
 use Rattle.std.proofs.lemmas.Bool.{cases_lt}
 use Rattle.std.proofs.lemmas.Option.{get_or_from_slice_get, slice_get_within, slice_get_past}
 use Rattle.std.proofs.lemmas.List.Sums.{fold_more}
@@ -16,8 +16,8 @@ use Rattle.qm_check.specs.declared.Fault.{Fault}
 use Rattle.qm_check.specs.declared.Uses.{Uses}
 use Rattle.qm_check.specs.declared.Uses.TheVariants.{Nothing, Fills, Keeps, Empties, Joins}
 use Rattle.qm_check.specs.Operands.{uses_of, gate_uses, partner_of}
-use Rattle.qm_check.specs.Faults.{IsFirst, IsBelow}
-use Rattle.qm_check.proofs.Firsts.{first_here, NoneBefore}
+use Rattle.qm_check.specs.Faults.{IsFirst, IsBelow, IsEarlierStep}
+use Rattle.qm_check.proofs.Firsts.{IsFoundBelow, found_more, found_all, IsFoundInRows}
 use Rattle.std.proofs.lemmas.List.{get_or_past}
 use Rattle.qm_check.specs.Slots.{HasFewSlots, is_full_after, full_after, partner_fault, slot_fault, instruction_fault, fault_if_any, step_fault}
 
@@ -55,7 +55,8 @@ uses-few n (instr.ReachTo q to tag) few h = one_below n q few h
 uses-few n (instr.ReachFrom t from tag) few h = one_below n t few h
 
 -- each instruction of programs in range has few slots
-pub instruction_slots-few : (p : Programs) (r k : ℕ) (i : Instr) → r < length p.ranks → IsInRange p → slice_get (rank_of p r).instructions k ≡ Some i → HasFewSlots (uses_of i)
+pub instruction_slots-few : (p : Programs) (r k : ℕ) (i : Instr) → r < length p.ranks
+    → IsInRange p → slice_get (rank_of p r).instructions k ≡ Some i → HasFewSlots (uses_of i)
 instruction_slots-few p r k i known h read =
     let x = rank_of p r in
     let ranges = rank_of-in_range p r known h in
@@ -64,13 +65,15 @@ instruction_slots-few p r k i known h read =
     uses-few x.qubits i ranges.most_qubits here.slots
 
 -- whether a slot is full after one more instruction
-pub full_after_more : (is : List Instr) (k q : ℕ) (i : Instr) → slice_get is k ≡ Some i → full_after (take (k + 1) is) q ≡ is_full_after q (full_after (take k is) q) (uses_of i)
+pub full_after_more : (is : List Instr) (k q : ℕ) (i : Instr) → slice_get is k ≡ Some i
+    → full_after (take (k + 1) is) q ≡ is_full_after q (full_after (take k is) q) (uses_of i)
 full_after_more is k q i read =
     fold_more (λ (before : Bool) (j : Instr). is_full_after q before (uses_of j)) false is k i (slice_get_within is k i read)
     ∙ ap (λ (j : Instr). is_full_after q (full_after (take k is) q) (uses_of j)) (get_or_from_slice_get is k i i read)
 
 -- slots that agree below 16 have the same fault
-slot_fault-same : (r k : ℕ) (f g : ℕ → Bool) (u : Uses) → ((q : ℕ) → q < 16 → f q ≡ g q) → HasFewSlots u → slot_fault r k f u ≡ slot_fault r k g u
+slot_fault-same : (r k : ℕ) (f g : ℕ → Bool) (u : Uses) → ((q : ℕ) → q < 16 → f q ≡ g q)
+    → HasFewSlots u → slot_fault r k f u ≡ slot_fault r k g u
 slot_fault-same r k f g Nothing same few = refl
 slot_fault-same r k f g (Fills q) same few = rw (same q few)
 slot_fault-same r k f g (Keeps q) same few = rw (same q few)
@@ -78,51 +81,59 @@ slot_fault-same r k f g (Empties q) same few = rw (same q few)
 slot_fault-same r k f g (Joins c t) same few = rw (same c few.0, same t few.1)
 
 -- the code's slots give the fault of an instruction
-pub step_fault-at : (p : Programs) (r k : ℕ) (f : ℕ → Bool) (i : Instr) → ((q : ℕ) → q < 16 → f q ≡ full_after (take k (rank_of p r).instructions) q) → HasFewSlots (uses_of i) → slice_get (rank_of p r).instructions k ≡ Some i → step_fault p r k ≡ instruction_fault (length p.ranks) r k f i
+pub step_fault-at : (p : Programs) (r k : ℕ) (f : ℕ → Bool) (i : Instr)
+    → ((q : ℕ) → q < 16 → f q ≡ full_after (take k (rank_of p r).instructions) q)
+    → HasFewSlots (uses_of i) → slice_get (rank_of p r).instructions k ≡ Some i
+    → step_fault p r k ≡ instruction_fault (length p.ranks) r k f i
 step_fault-at p r k f i same few read =
     let full = full_after (take k (rank_of p r).instructions) in
     ap (λ (o : Option Instr). fault_if_any (length p.ranks) r k full o) read
     ∙ ap (option_or (partner_fault (length p.ranks) r k (partner_of i))) (sym (slot_fault-same r k f full (uses_of i) same few))
 
 -- past its last instruction a rank has no fault
-pub step_fault-past : (p : Programs) (r k : ℕ) → length (rank_of p r).instructions ≤ k → step_fault p r k ≡ None
+pub step_fault-past : (p : Programs) (r k : ℕ) → length (rank_of p r).instructions ≤ k
+    → step_fault p r k ≡ None
 step_fault-past p r k past =
     ap (λ (o : Option Instr). fault_if_any (length p.ranks) r k (full_after (take k (rank_of p r).instructions)) o) (slice_get_past (rank_of p r).instructions k past)
 
--- the instructions before number k have no fault, and the slots are those after them
-pub record IsWalked (p : Programs) (r k : ℕ) (full : ℕ → Bool) : Type 0 where
-  pub faultless : (j : ℕ) → j < k → step_fault p r j ≡ None
+-- what is found in the instructions before number k: their first fault, where there is one, and which slots are full after them
+pub record IsWalked (p : Programs) (r k : ℕ) (full : ℕ → Bool) (o : Option Fault) : Type 0 where
+  pub found : IsFoundBelow (step_fault p r) k o
   pub slots : (q : ℕ) → q < 16 → full q ≡ full_after (take k (rank_of p r).instructions) q
 
 -- the fault that the code finds is that of the instruction
-pub walked_fault : (p : Programs) (r k n : ℕ) (full : ℕ → Bool) (i : Instr) (o : Option Fault) → r < length p.ranks → IsInRange p → IsWalked p r k full → n ≡ length p.ranks → slice_get (rank_of p r).instructions k ≡ Some i → o ≡ instruction_fault n r k full i → step_fault p r k ≡ o
-walked_fault p r k n full i o known h walked same read found =
+pub walked_fault : (p : Programs) (r k n : ℕ) (full : ℕ → Bool) (i : Instr) (o x : Option Fault)
+    → r < length p.ranks → IsInRange p → IsWalked p r k full o → n ≡ length p.ranks
+    → slice_get (rank_of p r).instructions k ≡ Some i → x ≡ instruction_fault n r k full i
+    → step_fault p r k ≡ x
+walked_fault p r k n full i o x known h walked same read found =
     step_fault-at p r k full i walked.slots (instruction_slots-few p r k i known h read) read
     ∙ ap (λ (m : ℕ). instruction_fault m r k full i) (sym same)
     ∙ sym found
 
--- an instruction without a fault leaves the walk at the next one
-pub walked_more : (p : Programs) (r k : ℕ) (full next : ℕ → Bool) (i : Instr) (o : Option Fault) → IsWalked p r k full → slice_get (rank_of p r).instructions k ≡ Some i → step_fault p r k ≡ o → is_some o ≡ false → ((q : ℕ) → q < 16 → next q ≡ is_full_after q (full q) (uses_of i)) → IsWalked p r (k + 1) next
-walked_more p r k full next i None walked read found none moved = record {
-  faultless = below_more (λ (j : ℕ). step_fault p r j ≡ None) k walked.faultless found;
+-- one instruction more
+pub walked_more : (p : Programs) (r k : ℕ) (full next : ℕ → Bool) (i : Instr) (o x : Option Fault)
+    → IsWalked p r k full o → slice_get (rank_of p r).instructions k ≡ Some i
+    → step_fault p r k ≡ x → ((q : ℕ) → q < 16 → next q ≡ is_full_after q (full q) (uses_of i))
+    → IsWalked p r (k + 1) next (option_or o x)
+walked_more p r k full next i o x walked read found moved = record {
+  found = found_more (step_fault p r) k o x walked.found found;
   slots =
       λ q few. moved q few
       ∙ ap (λ (b : Bool). is_full_after q b (uses_of i)) (walked.slots q few)
       ∙ sym (full_after_more (rank_of p r).instructions k q i read);
 }
-walked_more p r k full next i (Some f) walked read found none moved = cc
-
--- a fault after instructions without one is the rank's first
-pub walked_found : (p : Programs) (r k : ℕ) (full : ℕ → Bool) (o : Option Fault) → IsWalked p r k full → step_fault p r k ≡ o → is_some o ≡ true → IsFirst IsBelow (step_fault p r) o
-walked_found p r k full o walked found some =
-    first_here IsBelow (step_fault p r) k o found some walked.faultless
 
 -- after its last instruction a rank has no fault
-pub walked_all : (p : Programs) (r k : ℕ) (full : ℕ → Bool) → IsWalked p r k full → length (rank_of p r).instructions ≤ k → (j : ℕ) → step_fault p r j ≡ None
-walked_all p r k full walked all j =
-    ⊎_elim (walked.faultless j) (λ past. step_fault-past p r j (omega arith)) (cases_lt j k)
+pub walked_all : (p : Programs) (r k : ℕ) (full : ℕ → Bool) (o : Option Fault)
+    → IsWalked p r k full o → length (rank_of p r).instructions ≤ k
+    → IsFirst IsBelow (step_fault p r) o
+walked_all p r k full o walked all =
+    found_all (step_fault p r) k o walked.found (λ j past. step_fault-past p r j (omega arith))
 
 -- beyond the last rank there is no fault
-pub steps_all : (p : Programs) (n : ℕ) → NoneBefore (step_fault p) n → length p.ranks ≤ n → (s : ℕ × ℕ) → step_fault p s.0 s.1 ≡ None
-steps_all p n before all s =
-    ⊎_elim (λ lower. before s.0 lower s.1) (λ past. step_fault-past p s.0 s.1 (omega (arith, ap (λ (x : RankProgram). length x.instructions) (get_or_past p.ranks s.0 idle_rank (omega arith))))) (cases_lt s.0 n)
+pub steps_all : (p : Programs) (n : ℕ) (o : Option Fault) → IsFoundInRows (step_fault p) n o
+    → length p.ranks ≤ n → IsFirst IsEarlierStep (λ s. step_fault p s.0 s.1) o
+steps_all p n None found all =
+    λ s. ⊎_elim (λ lower. found s.0 lower s.1) (λ past. step_fault-past p s.0 s.1 (omega (arith, ap (λ (x : RankProgram). length x.instructions) (get_or_past p.ranks s.0 idle_rank (omega arith))))) (cases_lt s.0 n)
+steps_all p n (Some f) found all = found

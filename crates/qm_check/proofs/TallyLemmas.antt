@@ -15,7 +15,7 @@ use Rattle.std.proofs.Math.Path.{fun_ext}
 use Rattle.qm_instr.specs.declared.Instr.{Instr}
 use Rattle.qm_instr.specs.declared.Lane.{Lane}
 use Rattle.qm_instr.specs.Lanes.{code_order, lane_order, is_on}
-use Rattle.qm_instr.proofs.LaneOrder.{lane_order-derived, lane_order-total, is_lane-order}
+use Rattle.qm_instr.proofs.LaneOrder.{lane_order-derived, lane_order-total, is_lane-order, equal_from_test}
 use Rattle.qm_check.specs.declared.messages.Tally.{Tally}
 use Rattle.qm_instr.specs.Lanes.{lane_received}
 use Rattle.qm_instr.specs.declared.Instr.TheVariants as instr
@@ -33,49 +33,58 @@ pub code_order-total : IsTotalOrder code_order
 code_order-total =
     subst (λ (R : Lane → Lane → Ordering). IsTotalOrder R) (sym code_order-lane_order) lane_order-total
 
--- an order that is equal
-pub equal_from_test : (o : Ordering) → is_eq o ≡ true → o ≡ Equal
-equal_from_test Less h = cc
-equal_from_test Equal h = refl
-equal_from_test Greater h = cc
-
 -- equal lanes have one tally
-tally_in-same : (m : BTreeMap Lane Tally) (k a : Lane) → is_eq (code_order k a) ≡ true → tally_in m k ≡ tally_in m a
+tally_in-same : (m : BTreeMap Lane Tally) (k a : Lane) → is_eq (code_order k a) ≡ true
+    → tally_in m k ≡ tally_in m a
 tally_in-same m k a same =
     let at : (z : Lane) → is_eq (code_order k z) ≡ is_eq (code_order a z) = λ z. ap is_eq (code_order-total.congr k a z (equal_from_test (code_order k a) same)) in
     ap (λ (test : Lane → Bool). unwrap_or (lookup test m.entries) (tally 0 0)) (fun_ext at)
 
-noted : (m n : BTreeMap Lane Tally) (k a : Lane) (more had : Tally) (same : Bool) → is_eq (code_order k a) ≡ same → had ≡ tally_in m k → get code_order n a ≡ cond same (Some (plus had more)) (get code_order m a) → tally_in n a ≡ cond same (plus (tally_in m a) more) (tally_in m a)
+noted : (m n : BTreeMap Lane Tally) (k a : Lane) (more had : Tally) (same : Bool)
+    → is_eq (code_order k a) ≡ same → had ≡ tally_in m k
+    → get code_order n a ≡ cond same (Some (plus had more)) (get code_order m a)
+    → tally_in n a ≡ cond same (plus (tally_in m a) more) (tally_in m a)
 noted m n k a more had false test read put =
     ap (λ (o : Option Tally). unwrap_or o (tally 0 0)) put
 noted m n k a more had true test read put =
-    ap (λ (o : Option Tally). unwrap_or o (tally 0 0)) put ∙ ap (λ (t : Tally). plus t more) (read ∙ tally_in-same m k a test)
+    ap (λ (o : Option Tally). unwrap_or o (tally 0 0)) put
+    ∙ ap (λ (t : Tally). plus t more) (read ∙ tally_in-same m k a test)
 
 -- what a message leaves in the tallies
-pub tally_in-noted : (m n : BTreeMap Lane Tally) (on : Option Lane) (k a : Lane) (more had : Tally) → on ≡ Some k → had ≡ tally_in m k → get code_order n a ≡ cond (is_eq (code_order k a)) (Some (plus had more)) (get code_order m a) → tally_in n a ≡ plus_at on more a (tally_in m a)
+pub tally_in-noted : (m n : BTreeMap Lane Tally) (on : Option Lane) (k a : Lane) (more had : Tally)
+    → on ≡ Some k → had ≡ tally_in m k
+    → get code_order n a ≡ cond (is_eq (code_order k a)) (Some (plus had more)) (get code_order m a)
+    → tally_in n a ≡ plus_at on more a (tally_in m a)
 tally_in-noted m n on k a more had is read put =
     let tests : is_eq (code_order k a) ≡ is_on on a = ap is_eq (lane_order-derived k a) ∙ sym (is_lane-order k a) ∙ ap (λ (o : Option Lane). is_on o a) (sym is) in
-    noted m n k a more had (is_eq (code_order k a)) refl read put ∙ ap (λ (b : Bool). cond b (plus (tally_in m a) more) (tally_in m a)) tests
+    noted m n k a more had (is_eq (code_order k a)) refl read put
+    ∙ ap (λ (b : Bool). cond b (plus (tally_in m a) more) (tally_in m a)) tests
 
 -- tallies are equal where their parts are
 tally_same : (s s' r r' : ℕ) → s ≡ s' → r ≡ r' → tally s r ≡ tally s' r'
 tally_same s s' r r' sends receives = ap (λ x. tally x r) sends ∙ ap (tally s') receives
 
 -- one more instruction that is counted or isn't
-count_more : (p : Instr → Bool) (is : List Instr) (k : ℕ) (i : Instr) → slice_get is k ≡ Some i → count_by p (take (k + 1) is) ≡ count_by p (take k is) + cond (p i) 1 0
+count_more : (p : Instr → Bool) (is : List Instr) (k : ℕ) (i : Instr) → slice_get is k ≡ Some i
+    → count_by p (take (k + 1) is) ≡ count_by p (take k is) + cond (p i) 1 0
 count_more p is k i read =
     sum_by_more (λ (x : Instr). cond (p x) 1 0) is k i (slice_get_within is k i read)
     ∙ ap (λ (x : Instr). count_by p (take k is) + cond (p x) 1 0) (get_or_from_slice_get is k i i read)
 
 -- the tally after one instruction, by whether it posts and receives
-plus_flags : (p q : Bool) (t u : Tally) (s r : ℕ) → s ≡ u.sends + cond p 1 0 → r ≡ u.receives + cond q 1 0 → cond q (plus (cond p (plus (plus t u) (tally 1 0)) (plus t u)) (tally 0 1)) (cond p (plus (plus t u) (tally 1 0)) (plus t u)) ≡ plus t (tally s r)
+plus_flags : (p q : Bool) (t u : Tally) (s r : ℕ) → s ≡ u.sends + cond p 1 0
+    → r ≡ u.receives + cond q 1 0
+    → cond q (plus (cond p (plus (plus t u) (tally 1 0)) (plus t u)) (tally 0 1)) (cond p (plus (plus t u) (tally 1 0)) (plus t u)) ≡ plus t (tally s r)
 plus_flags false false t u s r sends receives = tally_same _ _ _ _ (omega arith) (omega arith)
 plus_flags false true t u s r sends receives = tally_same _ _ _ _ (omega arith) (omega arith)
 plus_flags true false t u s r sends receives = tally_same _ _ _ _ (omega arith) (omega arith)
 plus_flags true true t u s r sends receives = tally_same _ _ _ _ (omega arith) (omega arith)
 
 -- the tallies after one more instruction of a rank
-pub rank_tally_more : (m n : BTreeMap Lane Tally) (t : Tally) (r k : ℕ) (is : List Instr) (i : Instr) (a : Lane) → tally_in m a ≡ plus t (rank_tally r (take k is) a) → slice_get is k ≡ Some i → tally_in n a ≡ plus_instruction r i a (tally_in m a) → tally_in n a ≡ plus t (rank_tally r (take (k + 1) is) a)
+pub rank_tally_more : (m n : BTreeMap Lane Tally) (t : Tally) (r k : ℕ) (is : List Instr) (i : Instr) (a : Lane)
+    → tally_in m a ≡ plus t (rank_tally r (take k is) a) → slice_get is k ≡ Some i
+    → tally_in n a ≡ plus_instruction r i a (tally_in m a)
+    → tally_in n a ≡ plus t (rank_tally r (take (k + 1) is) a)
 rank_tally_more m n t r k is i a so_far read noted =
     noted
     ∙ ap (plus_instruction r i a) so_far
@@ -87,7 +96,8 @@ tally_below p n a =
     tally (cond (nat_lt a.from n) (lane_sends p a) 0) (cond (nat_lt a.to n) (lane_receives p a) 0)
 
 -- numbers that differ make an order that isn't equal
-apart_first : (x y : ℕ) (c o : Ordering) → MatchOrdering c (x < y) (x ≡ y) (y < x) → x ≢ y → is_eq (ordering_then c o) ≡ false
+apart_first : (x y : ℕ) (c o : Ordering) → MatchOrdering c (x < y) (x ≡ y) (y < x) → x ≢ y
+    → is_eq (ordering_then c o) ≡ false
 apart_first x y Less o h apart = refl
 apart_first x y Equal o h apart = absurd (apart h)
 apart_first x y Greater o h apart = refl
@@ -126,12 +136,14 @@ received_to r _ = tt
 not_lane_from : (r : ℕ) (o : Option Lane) (a : Lane) → IsFrom r o → a.from ≢ r → is_on o a ≡ false
 not_lane_from r None a from apart = refl
 not_lane_from r (Some b) a from apart =
-    is_lane-order b a ∙ apart_first b.from a.from (nat_cmp b.from a.from) _ (ranked b.from a.from (nat_cmp b.from a.from) refl) (λ e. apart (sym e ∙ from))
+    is_lane-order b a
+    ∙ apart_first b.from a.from (nat_cmp b.from a.from) _ (ranked b.from a.from (nat_cmp b.from a.from) refl) (λ e. apart (sym e ∙ from))
 
 not_lane_to : (r : ℕ) (o : Option Lane) (a : Lane) → IsTo r o → a.to ≢ r → is_on o a ≡ false
 not_lane_to r None a to apart = refl
 not_lane_to r (Some b) a to apart =
-    is_lane-order b a ∙ apart_rest (nat_cmp b.from a.from) _ (apart_first b.to a.to (nat_cmp b.to a.to) _ (ranked b.to a.to (nat_cmp b.to a.to) refl) (λ e. apart (sym e ∙ to)))
+    is_lane-order b a
+    ∙ apart_rest (nat_cmp b.from a.from) _ (apart_first b.to a.to (nat_cmp b.to a.to) _ (ranked b.to a.to (nat_cmp b.to a.to) refl) (λ e. apart (sym e ∙ to)))
 
 -- where no instruction counts, the count is 0
 count_none : (p : Instr → Bool) (is : List Instr) → ((i : Instr) → p i ≡ false) → count_by p is ≡ 0
@@ -139,7 +151,8 @@ count_none p is none =
     omega (arith, sum_by-le (λ (x : Instr). cond (p x) 1 0) 0 is (λ k d below. subst (λ (b : Bool). cond b 1 0 ≤ 0) (sym (none (get_or is k d))) (omega arith)))
 
 -- a number that belongs to rank x, one rank later
-part_more : (x n whole here : ℕ) → (x ≡ n → here ≡ whole) → (x ≢ n → here ≡ 0) → cond (nat_lt x n) whole 0 + here ≡ cond (nat_lt x (n + 1)) whole 0
+part_more : (x n whole here : ℕ) → (x ≡ n → here ≡ whole) → (x ≢ n → here ≡ 0)
+    → cond (nat_lt x n) whole 0 + here ≡ cond (nat_lt x (n + 1)) whole 0
 part_more x n whole here at away =
     ⊎_elim
     (λ (lower : x < n). let none : here ≡ 0 = away (λ e. omega arith) in grind (arith, nat_tests))
@@ -147,9 +160,12 @@ part_more x n whole here at away =
     (cases_lt x n)
 
 -- the tallies after one more rank
-pub tally_below_more : (p : Programs) (n : ℕ) (s t : Tally) (a : Lane) → s ≡ tally_below p n a → t ≡ plus s (rank_tally n (rank_of p n).instructions a) → t ≡ tally_below p (n + 1) a
+pub tally_below_more : (p : Programs) (n : ℕ) (s t : Tally) (a : Lane) → s ≡ tally_below p n a
+    → t ≡ plus s (rank_tally n (rank_of p n).instructions a) → t ≡ tally_below p (n + 1) a
 tally_below_more p n s t a so_far noted =
     let is = (rank_of p n).instructions in
     let sends : cond (nat_lt a.from n) (lane_sends p a) 0 + posts_in n a is ≡ cond (nat_lt a.from (n + 1)) (lane_sends p a) 0 = part_more a.from n (lane_sends p a) (posts_in n a is) (λ e. ap (λ (r : ℕ). posts_in r a (rank_of p r).instructions) (sym e)) (λ apart. count_none (λ i. posts_on n i a) is (λ i. posts_on-lane n i a ∙ not_lane_from n (post_lane n i) a (posted_from n i) apart)) in
     let receives : cond (nat_lt a.to n) (lane_receives p a) 0 + receives_in n a is ≡ cond (nat_lt a.to (n + 1)) (lane_receives p a) 0 = part_more a.to n (lane_receives p a) (receives_in n a is) (λ e. ap (λ (r : ℕ). receives_in r a (rank_of p r).instructions) (sym e)) (λ apart. count_none (λ i. is_on (lane_received n i) a) is (λ i. not_lane_to n (lane_received n i) a (received_to n i) apart)) in
-    noted ∙ ap (λ (x : Tally). plus x (rank_tally n is a)) so_far ∙ tally_same _ _ _ _ sends receives
+    noted
+    ∙ ap (λ (x : Tally). plus x (rank_tally n is a)) so_far
+    ∙ tally_same _ _ _ _ sends receives

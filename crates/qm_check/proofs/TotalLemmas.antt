@@ -7,10 +7,10 @@ use Rattle.qm_instr.specs.declared.Instr.TheVariants as instr
 use Rattle.qm_instr.specs.Counts.{events_of, protocol_of, own_of}
 use Rattle.qm_instr.specs.Programs.{RankProgram, idle_rank}
 use Rattle.qm_check.specs.declared.Totals.{Totals}
-use Rattle.qm_check.specs.Totals.{totals_of, totals_over}
+use Rattle.qm_check.specs.Totals.{totals_of, totals_over, HasFew}
 
 -- no instruction has more than 5 events, 2 outcomes of the protocol tape and 1 of the own tape
-counts_small : (i : Instr) → (events_of i ≤ 5) × (protocol_of i ≤ 2) × (own_of i ≤ 1)
+pub counts_small : (i : Instr) → (events_of i ≤ 5) × (protocol_of i ≤ 2) × (own_of i ≤ 1)
 counts_small (instr.Measure q b) = (omega arith, omega arith, omega arith)
 counts_small (instr.CopyTo q to tag) = (omega arith, omega arith, omega arith)
 counts_small (instr.CopyFrom q from tag) = (omega arith, omega arith, omega arith)
@@ -31,33 +31,51 @@ pub record IsCounted (so_far : Totals) (k e p o : ℕ) (t : Totals) : Type 0 whe
   pub few_protocol : t.protocol ≤ p * k
   pub few_own : t.own ≤ o * k
 
-pub sum_more : {X : Type 0} (f : X → ℕ) (xs : List X) (k : ℕ) (x : X) → slice_get xs k ≡ Some x → sum_by f (take (k + 1) xs) ≡ sum_by f (take k xs) + f x
+-- the totals of one instruction, and two totals together
+pub record IsOfInstr (i : Instr) (t : Totals) : Type 0 where
+  pub events : t.events ≡ events_of i
+  pub protocol : t.protocol ≡ protocol_of i
+  pub own : t.own ≡ own_of i
+
+pub record IsSum (t more both : Totals) : Type 0 where
+  pub events : both.events ≡ t.events + more.events
+  pub protocol : both.protocol ≡ t.protocol + more.protocol
+  pub own : both.own ≡ t.own + more.own
+
+pub sum_more : {X : Type 0} (f : X → ℕ) (xs : List X) (k : ℕ) (x : X) → slice_get xs k ≡ Some x
+    → sum_by f (take (k + 1) xs) ≡ sum_by f (take k xs) + f x
 sum_more f xs k x read =
-    sum_by_more f xs k x (slice_get_within xs k x read) ∙ ap (λ y. sum_by f (take k xs) + f y) (get_or_from_slice_get xs k x x read)
+    sum_by_more f xs k x (slice_get_within xs k x read)
+    ∙ ap (λ y. sum_by f (take k xs) + f y) (get_or_from_slice_get xs k x x read)
 
 -- one more instruction
-pub totals_of_more : (is : List Instr) (k : ℕ) (i : Instr) (t : Totals) (e p o : ℕ) → IsCounted (totals_of (take k is)) k 5 2 1 t → slice_get is k ≡ Some i → e ≡ events_of i → p ≡ protocol_of i → o ≡ own_of i → IsCounted (totals_of (take (k + 1) is)) (k + 1) 5 2 1 (record { events = t.events + e; protocol = t.protocol + p; own = t.own + o })
-totals_of_more is k i t e p o h read is_e is_p is_o =
+pub totals_of_more : (is : List Instr) (k : ℕ) (i : Instr) (t more next : Totals)
+    → IsCounted (totals_of (take k is)) k 5 2 1 t → slice_get is k ≡ Some i → IsOfInstr i more
+    → IsSum t more next → IsCounted (totals_of (take (k + 1) is)) (k + 1) 5 2 1 next
+totals_of_more is k i t more next h read this sum =
     let small = counts_small i in
     record {
-      events = omega (arith, sum_more events_of is k i read, h.events);
-      protocol = omega (arith, sum_more protocol_of is k i read, h.protocol);
-      own = omega (arith, sum_more own_of is k i read, h.own);
-      few_events = omega (arith, h.few_events, small.0);
-      few_protocol = omega (arith, h.few_protocol, small.1);
-      few_own = omega (arith, h.few_own, small.2);
+      events = omega (arith, sum_more events_of is k i read, h.events, this.events, sum.events);
+      protocol = omega (arith, sum_more protocol_of is k i read, h.protocol, this.protocol, sum.protocol);
+      own = omega (arith, sum_more own_of is k i read, h.own, this.own, sum.own);
+      few_events = omega (arith, h.few_events, small.0, this.events, sum.events);
+      few_protocol = omega (arith, h.few_protocol, small.1, this.protocol, sum.protocol);
+      few_own = omega (arith, h.few_own, small.2, this.own, sum.own);
     }
 
 -- one more rank
-pub totals_over_more : (rs : List RankProgram) (k : ℕ) (t more : Totals) → k < length rs → IsCounted (totals_over (take k rs)) k 500000 200000 100000 t → more ≡ totals_of (get_or rs k idle_rank).instructions → more.events ≤ 500000 → more.protocol ≤ 200000 → more.own ≤ 100000 → IsCounted (totals_over (take (k + 1) rs)) (k + 1) 500000 200000 100000 (record { events = t.events + more.events; protocol = t.protocol + more.protocol; own = t.own + more.own })
-totals_over_more rs k t more known h same few_e few_p few_o = record {
+pub totals_over_more : (rs : List RankProgram) (k : ℕ) (t more next : Totals) → k < length rs
+    → IsCounted (totals_over (take k rs)) k 500000 200000 100000 t
+    → more ≡ totals_of (get_or rs k idle_rank).instructions → HasFew more → IsSum t more next
+    → IsCounted (totals_over (take (k + 1) rs)) (k + 1) 500000 200000 100000 next
+totals_over_more rs k t more next known h same few sum = record {
   events =
-      omega (arith, sum_by_more (λ (r : RankProgram). sum_by events_of r.instructions) rs k idle_rank known, h.events, ap (λ (x : Totals). x.events) same);
+      omega (arith, sum_by_more (λ (r : RankProgram). sum_by events_of r.instructions) rs k idle_rank known, h.events, ap (λ (x : Totals). x.events) same, sum.events);
   protocol =
-      omega (arith, sum_by_more (λ (r : RankProgram). sum_by protocol_of r.instructions) rs k idle_rank known, h.protocol, ap (λ (x : Totals). x.protocol) same);
+      omega (arith, sum_by_more (λ (r : RankProgram). sum_by protocol_of r.instructions) rs k idle_rank known, h.protocol, ap (λ (x : Totals). x.protocol) same, sum.protocol);
   own =
-      omega (arith, sum_by_more (λ (r : RankProgram). sum_by own_of r.instructions) rs k idle_rank known, h.own, ap (λ (x : Totals). x.own) same);
-  few_events = omega (arith, h.few_events);
-  few_protocol = omega (arith, h.few_protocol);
-  few_own = omega (arith, h.few_own);
+      omega (arith, sum_by_more (λ (r : RankProgram). sum_by own_of r.instructions) rs k idle_rank known, h.own, ap (λ (x : Totals). x.own) same, sum.own);
+  few_events = omega (arith, h.few_events, few.events, sum.events);
+  few_protocol = omega (arith, h.few_protocol, few.protocol, sum.protocol);
+  few_own = omega (arith, h.few_own, few.own, sum.own);
 }

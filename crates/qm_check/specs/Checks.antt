@@ -1,4 +1,4 @@
--- All places where programs may have a fault, and the first fault of all
+-- All sites where programs may have a fault, and the first fault of all
 use Rattle.std.specs.Prelude.{◌≡◌, ℕ, ◌+◌, ◌<◌, ◌==◌, nat_lt, ◌⊎◌, Bool, if◌then◌else◌, List, sum_by, Option, Some, None}
 use Rattle.qm_instr.specs.declared.Lane.{Lane}
 use Rattle.qm_instr.specs.Programs.{Programs}
@@ -27,40 +27,40 @@ width_fault version capacity =
     if nat_lt (most_capacity version) capacity then Some (fault.TooWide capacity) else None
 
 -- where programs may have a fault
-pub data Place : Type 0 where
-  Width : Place  -- all ranks together
-  Step : (r k : ℕ) → Place  -- instruction k of rank r
-  Between : Lane → Place  -- a lane
-  Tape : (r : ℕ) (own : Bool) → Place  -- the own tape of rank r, or its protocol tape
+pub data Site : Type 0 where
+  AllRanks : Site  -- all ranks together
+  AtInstr : (r k : ℕ) → Site  -- instruction k of rank r
+  OnLane : Lane → Site  -- a lane
+  OnTape : (r : ℕ) (own : Bool) → Site  -- the own tape of rank r, or its protocol tape
 
--- the fault at a place
-abbrev pub fault_at : Programs → Place → Option Fault
-fault_at p Width = width_fault p.version (capacity_of p)
-fault_at p (Step r k) = step_fault p r k
-fault_at p (Between a) = lane_fault p a
-fault_at p (Tape r own) = tape_fault p r own
+-- the fault at a site
+abbrev pub fault_at : Programs → Site → Option Fault
+fault_at p AllRanks = width_fault p.version (capacity_of p)
+fault_at p (AtInstr r k) = step_fault p r k
+fault_at p (OnLane a) = lane_fault p a
+fault_at p (OnTape r own) = tape_fault p r own
 
--- which of the four kinds of places comes first
-abbrev pub stage_of : Place → ℕ
-stage_of Width = 0
-stage_of (Step r k) = 1
-stage_of (Between a) = 2
-stage_of (Tape r own) = 3
+-- which of the four kinds of sites comes first
+abbrev pub stage_of : Site → ℕ
+stage_of AllRanks = 0
+stage_of (AtInstr r k) = 1
+stage_of (OnLane a) = 2
+stage_of (OnTape r own) = 3
 
--- the order of two places of one kind
-abbrev pub IsBeforeAlike : Place → Place → Type 0
-IsBeforeAlike (Step r k) (Step s j) = IsEarlierStep (r, k) (s, j)
-IsBeforeAlike (Between a) (Between b) = IsLower a b
-IsBeforeAlike (Tape r own) (Tape s other) = IsEarlierTape (r, own) (s, other)
+-- the order of two sites of one kind
+abbrev pub IsBeforeAlike : Site → Site → Type 0
+IsBeforeAlike (AtInstr r k) (AtInstr s j) = IsEarlierStep (r, k) (s, j)
+IsBeforeAlike (OnLane a) (OnLane b) = IsLower a b
+IsBeforeAlike (OnTape r own) (OnTape s other) = IsEarlierTape (r, own) (s, other)
 IsBeforeAlike _ _ = ⊥
 
--- the order of the places
-abbrev pub IsBefore : Place → Place → Type 0
+-- the order of the sites
+abbrev pub IsBefore : Site → Site → Type 0
 IsBefore a b = (stage_of a < stage_of b) ⊎ IsBeforeAlike a b
 
--- no place has a fault
+-- no site has a fault
 abbrev pub IsReady : Programs → Type 0
-IsReady p = (a : Place) → fault_at p a ≡ None
+IsReady p = (a : Site) → fault_at p a ≡ None
 
 -- the fault is the first of all
 abbrev pub IsFirstFault : Programs → Fault → Type 0

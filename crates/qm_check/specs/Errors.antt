@@ -5,6 +5,6 @@ use Rattle.qm_check.specs.declared.CheckError.TheVariants as error
 use Rattle.qm_check.specs.Checks.{IsFirstFault}
 
 -- a fault is the first; memory says nothing
-abbrev pub Explains : Programs → CheckError → Type 0
-Explains p (error.Fault f) = IsFirstFault p f
-Explains p error.Memory = Unit {0}
+abbrev pub TellsFirstFault : Programs → CheckError → Type 0
+TellsFirstFault p (error.Fault f) = IsFirstFault p f
+TellsFirstFault p error.Memory = Unit {0}

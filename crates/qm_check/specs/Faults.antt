@@ -1,8 +1,8 @@
--- The first of the faults at many places
+-- The first of the faults at many sites
 use Rattle.std.specs.Prelude.{◌≡◌, ℕ, ◌<◌, ◌⊎◌, Bool, true, false, Option, Some, None}
 use Rattle.qm_check.specs.declared.Fault.{Fault}
 
--- the first fault, in an order of the places: none where no place has one
+-- the first fault, in an order of the sites: none where no site has one
 abbrev pub IsFirst : {A : Type 0} → (A → A → Type 0) → (A → Option Fault) → Option Fault → Type 0
 IsFirst {A} IsBefore fault_at None = (a : A) → fault_at a ≡ None
 IsFirst {A} IsBefore fault_at (Some f) =

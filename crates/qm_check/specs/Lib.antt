@@ -3,6 +3,7 @@ pub mod Errors
 pub mod Faults
 pub mod Messages
 pub mod Operands
+pub mod Readings
 pub mod Slots
 pub mod Tallies
 pub mod Tapes

@@ -1,19 +1,16 @@
 //! The check as a whole, and programs that passed it.
 ghost use Rattle.std.specs.Prelude.{◌≡◌, IfOk, IfErr, OnOk};
-ghost use Rattle.std.specs.BTreeMap.{IsOrdered};
 ghost use Rattle.qm_check.specs.Checks.{capacity_of, width_fault, fault_at, IsBefore, IsReady};
-ghost use Rattle.qm_check.specs.Errors.{Explains};
+ghost use Rattle.qm_check.specs.Errors.{TellsFirstFault};
 ghost use Rattle.qm_check.specs.Faults.{IsFirst};
 ghost use Rattle.qm_check.specs.Messages.{IsLaneTable};
-ghost use Rattle.qm_check.specs.Tallies.{tally_in, lane_tally};
+ghost use Rattle.qm_check.specs.Readings.{IsReading};
 ghost use Rattle.qm_check.specs.Totals.{totals_over};
 
-use crate::counting::all_totals;
-use crate::messages::{Tallies, fault_of_lanes, send_counts, tally_lanes};
-use crate::slots::fault_of_steps;
-use crate::tapes::fault_of_tapes;
+use crate::messages::{fault_of_lanes, send_counts};
+use crate::reading::{Reading, read_ranks};
 use crate::{CheckError, Fault, LaneCount, Totals};
-use qm_instr::{Input, Lane};
+use qm_instr::Input;
 use qm_limits::{MOST_CAPACITY, MOST_CAPACITY_1};
 use std::alloc::Global;
 use std::marker::Model;
@@ -106,17 +103,15 @@ fn fault_of_width(version: u8, capacity: u32) -> Option<Fault>
     (capacity > most).then_some(Fault::TooWide { capacity })
 }
 
-/// The first fault of all.
-fn first_fault(input: &Input, capacity: u32, tallies: &Tallies) -> Option<Fault>
+/// The first fault of all, by what the instructions say.
+fn first_fault(input: &Input, capacity: u32, read: &Reading) -> Option<Fault>
     requires capacity { capacity ≡ capacity_of input.now }
-    requires tallies { (a : Lane) → tally_in tallies.now a ≡ lane_tally input.now a }
+    requires read { IsReading input.now read.now }
     ensures { IsFirst IsBefore (fault_at input.now) result }
 {
     let width = fault_of_width(input.version(), capacity);
-    let steps = fault_of_steps(input);
-    let lanes = fault_of_lanes(tallies);
-    let tapes = fault_of_tapes(input);
-    width.or(steps).or(lanes).or(tapes)
+    let lane = fault_of_lanes(&read.tallies);
+    width.or(read.step).or(lane).or(read.tape)
 }
 
 /// Checks the programs of all ranks.
@@ -128,23 +123,18 @@ fn first_fault(input: &Input, capacity: u32, tallies: &Tallies) -> Option<Fault>
 pub fn check(alloc: Global, input: Input) -> Result<Ready, CheckError>
     ensures ok { IfOk result (λ r. r ≡ input) }
     ensures ready { OnOk result (IsReady input) }
-    ensures err { IfErr result (Explains input) }
+    ensures err { IfErr result (TellsFirstFault input) }
 {
     let capacity = total_capacity(&input);
-    let Ok(tallies) = tally_lanes(alloc, &input) else {
-        return Err(CheckError::Memory);
-    };
-    if let Some(fault) = first_fault(&input, capacity, &tallies) {
+    let read = read_ranks(alloc, &input)?;
+    if let Some(fault) = first_fault(&input, capacity, &read) {
         return Err(CheckError::Fault { fault });
     }
-    let Ok(lanes) = send_counts(alloc, &tallies) else {
-        return Err(CheckError::Memory);
-    };
-    let totals = all_totals(&input);
+    let lanes = send_counts(alloc, &read.tallies)?;
     Ok(Ready {
         input,
         capacity,
         lanes,
-        totals,
+        totals: read.totals,
     })
 }

@@ -1,51 +1,44 @@
 //! How many events there are, and how many outcomes are taken.
-ghost use Rattle.std.specs.Prelude.{◌≡◌, ◌<◌, ◌≤◌, length};
-ghost use Rattle.qm_instr.specs.Programs.{rank_of};
-ghost use Rattle.qm_check.specs.Totals.{totals_of, totals_over};
+ghost use Rattle.std.specs.Prelude.{◌≡◌, ◌+◌, ◌<◌, ◌≤◌, ◌^◌};
+ghost use Rattle.qm_instr.specs.Counts.{events_of, protocol_of, own_of};
 
 use crate::Totals;
-use qm_instr::{Input, event_count, own_count, protocol_count};
-use qm_limits::{MOST_EVENTS, MOST_INSTRUCTIONS, MOST_PROTOCOL};
+use qm_instr::{Instr, event_count, own_count, protocol_count};
 
 impl Totals {
     /// Of no instructions.
-    const NONE: Totals = Totals {
+    pub(crate) const NONE: Totals = Totals {
         events: 0,
         protocol: 0,
         own: 0,
     };
-}
 
-/// The totals of a rank, which has at most [`MOST_INSTRUCTIONS`] instructions.
-pub(crate) fn rank_totals(input: &Input, rank: u16) -> Totals
-    requires { rank < length input.now.ranks }
-    ensures value { result ≡ totals_of (rank_of input.now rank).instructions }
-    ensures events { result.events ≤ MOST_EVENTS }
-    ensures protocol { result.protocol ≤ MOST_PROTOCOL }
-    ensures own { result.own ≤ MOST_INSTRUCTIONS }
-{
-    let mut totals = Totals::NONE;
-    for at in 0..input.count(rank) {
-        let Some(i) = input.instr(rank, at) else {
-            unreachable!()
-        };
-        totals.events += u64::from(event_count(i));
-        totals.protocol += u64::from(protocol_count(i));
-        totals.own += u64::from(own_count(i));
+    /// Of one instruction.
+    pub(crate) fn of(i: Instr) -> Totals
+        ensures events { result.events ≡ events_of i }
+        ensures protocol { result.protocol ≡ protocol_of i }
+        ensures own { result.own ≡ own_of i }
+    {
+        Totals {
+            events: u64::from(event_count(i)),
+            protocol: u64::from(protocol_count(i)),
+            own: u64::from(own_count(i)),
+        }
     }
-    totals
-}
 
-/// The totals of all ranks.
-pub(crate) fn all_totals(input: &Input) -> Totals
-    ensures { result ≡ totals_over input.now.ranks }
-{
-    let mut totals = Totals::NONE;
-    for rank in 0..input.ranks() {
-        let more = rank_totals(input, rank);
-        totals.events += more.events;
-        totals.protocol += more.protocol;
-        totals.own += more.own;
+    /// Both together.
+    pub(crate) fn plus(self, more: Totals) -> Totals
+        requires events { self.events + more.events < 2 ^ 64 }
+        requires protocol { self.protocol + more.protocol < 2 ^ 64 }
+        requires own { self.own + more.own < 2 ^ 64 }
+        ensures events { result.events ≡ self.events + more.events }
+        ensures protocol { result.protocol ≡ self.protocol + more.protocol }
+        ensures own { result.own ≡ self.own + more.own }
+    {
+        Totals {
+            events: self.events + more.events,
+            protocol: self.protocol + more.protocol,
+            own: self.own + more.own,
+        }
     }
-    totals
 }

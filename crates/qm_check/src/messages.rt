@@ -13,7 +13,7 @@ use std::alloc::{AllocError, Global};
 use std::collections::BTreeMap;
 
 /// How many messages a lane has.
-#[derive(Clone, Copy, PartialEq, Eq, Debug)]
+#[derive(Clone, Copy)]
 pub(crate) struct Tally {
     pub(crate) sends: u32,
     pub(crate) receives: u32,
@@ -47,12 +47,7 @@ fn posted_lane(rank: u16, i: Instr) -> Option<Lane>
     ensures { (a : Lane) → is_on result a ≡ posts_on rank i a }
 {
     match i {
-        Instr::ReachFrom { from, tag, .. } => Some(Lane {
-            from: rank,
-            to: from,
-            kind: Kind::Back,
-            tag,
-        }),
+        Instr::ReachFrom { from, tag, .. } => Some(Lane::new(rank, from, Kind::Back, tag)),
         _ => send_lane(rank, i),
     }
 }
@@ -77,7 +72,7 @@ fn note_message(tallies: &mut Tallies, on: Option<Lane>, more: Tally) -> Result<
 }
 
 /// Adds the messages of an instruction of a rank.
-fn note_instruction(tallies: &mut Tallies, rank: u16, i: Instr) -> Result<(), AllocError>
+pub(crate) fn note_instruction(tallies: &mut Tallies, rank: u16, i: Instr) -> Result<(), AllocError>
     requires { (a : Lane) → IsAtMost (9 * MOST_INSTRUCTIONS) (tally_in tallies.old a) }
     ensures { OnOk result
         ((a : Lane) → tally_in tallies.new a ≡ plus_instruction rank i a (tally_in tallies.old a)) }
@@ -85,34 +80,6 @@ fn note_instruction(tallies: &mut Tallies, rank: u16, i: Instr) -> Result<(), Al
     note_message(tallies, posted_lane(rank, i), Tally::SEND)?;
     note_message(tallies, receive_lane(rank, i), Tally::RECEIVE)?;
     Ok(())
-}
-
-/// Adds the messages of a rank.
-fn note_rank(tallies: &mut Tallies, input: &Input, rank: u16) -> Result<(), AllocError>
-    requires known { rank < length input.now.ranks }
-    requires few { (a : Lane) → IsAtMost MOST_INSTRUCTIONS (tally_in tallies.old a) }
-    ensures { let is = (rank_of input.now rank).instructions in
-        OnOk result ((a : Lane)
-        → tally_in tallies.new a ≡ plus (tally_in tallies.old a) (rank_tally rank is a)) }
-{
-    for at in 0..input.count(rank) {
-        let Some(i) = input.instr(rank, at) else {
-            unreachable!()
-        };
-        note_instruction(tallies, rank, i)?;
-    }
-    Ok(())
-}
-
-/// The tallies of all lanes.
-pub(crate) fn tally_lanes(alloc: Global, input: &Input) -> Result<Tallies, AllocError>
-    ensures { IfOk result (λ m. (a : Lane) → tally_in m a ≡ lane_tally input.now a) }
-{
-    let mut tallies = BTreeMap::new(alloc);
-    for rank in 0..input.ranks() {
-        note_rank(&mut tallies, input, rank)?;
-    }
-    Ok(tallies)
 }
 
 /// The fault of a lane with this tally. Lanes that carry answers have none.

@@ -1,16 +1,20 @@
 //! The faults of single instructions: the ranks that they name, and their slots.
-ghost use Rattle.std.specs.Prelude.{◌≡◌, ◌<◌, ℕ, length, false, take, slice_get, slice_index_or};
-ghost use Rattle.qm_instr.specs.Programs.{rank_of};
-ghost use Rattle.qm_check.specs.Faults.{IsFirst, IsBelow, IsEarlierStep};
+ghost use Rattle.std.specs.Prelude.{◌≡◌, ◌<◌, ℕ, false, slice_index_or};
 ghost use Rattle.qm_check.specs.Operands.{uses_of};
-ghost use Rattle.qm_check.specs.Slots.{HasFewSlots, is_full_after, partner_fault, slot_fault, instruction_fault, step_fault};
+ghost use Rattle.qm_check.specs.Slots.{HasFewSlots, is_full_after, partner_fault, slot_fault, instruction_fault};
 
 use crate::operands::{partner, slot_uses};
 use crate::{Fault, Uses};
-use qm_instr::{Input, Instr};
+use qm_instr::Instr;
 
 /// How many slots a rank may have, as the length of a list.
 const SLOTS: usize = qm_limits::SLOTS as usize;
+
+/// Which slots of a rank are full.
+pub(crate) type Slots = [bool; SLOTS];
+
+/// None of them.
+pub(crate) const EMPTY: Slots = [false; SLOTS];
 
 /// The fault of an instruction by the rank that it names.
 fn fault_of_partner(ranks: u16, rank: u16, at: u32, named: Option<u16>) -> Option<Fault>
@@ -27,7 +31,7 @@ fn fault_of_partner(ranks: u16, rank: u16, at: u32, named: Option<u16>) -> Optio
 }
 
 /// The fault of an instruction by its slots, some of which are full.
-fn fault_of_slots(rank: u16, at: u32, full: &[bool; SLOTS], what: Uses) -> Option<Fault>
+fn fault_of_slots(rank: u16, at: u32, full: &Slots, what: Uses) -> Option<Fault>
     requires { HasFewSlots what }
     ensures { result ≡ slot_fault rank at (λ q. slice_index_or full.now q false) what }
 {
@@ -43,11 +47,11 @@ fn fault_of_slots(rank: u16, at: u32, full: &[bool; SLOTS], what: Uses) -> Optio
 }
 
 /// The first fault of an instruction.
-fn fault_of_instruction(
+pub(crate) fn fault_of_instruction(
     ranks: u16,
     rank: u16,
     at: u32,
-    full: &[bool; SLOTS],
+    full: &Slots,
     i: Instr,
 ) -> Option<Fault>
     requires { HasFewSlots (uses_of i) }
@@ -57,7 +61,7 @@ fn fault_of_instruction(
 }
 
 /// Fills and empties slots as an instruction does.
-fn note_slots(full: &mut [bool; SLOTS], what: Uses)
+pub(crate) fn note_slots(full: &mut Slots, what: Uses)
     requires { HasFewSlots what }
     ensures { (q : ℕ) → q < SLOTS
         → slice_index_or full.new q false ≡ is_full_after q (slice_index_or full.old q false) what }
@@ -67,36 +71,4 @@ fn note_slots(full: &mut [bool; SLOTS], what: Uses)
         Uses::Empties { q } => full[usize::from(q)] = false,
         Uses::Nothing | Uses::Keeps { .. } | Uses::Joins { .. } => {}
     }
-}
-
-/// The first fault of a rank's instructions.
-fn rank_fault(input: &Input, rank: u16) -> Option<Fault>
-    requires { rank < length input.now.ranks }
-    ensures { IsFirst IsBelow (step_fault input.now rank) result }
-{
-    let mut full = [false; SLOTS];
-    for at in 0..input.count(rank) {
-        let Some(i) = input.instr(rank, at) else {
-            unreachable!()
-        };
-        let fault = fault_of_instruction(input.ranks(), rank, at, &full, i);
-        if fault.is_some() {
-            return fault;
-        }
-        note_slots(&mut full, slot_uses(i));
-    }
-    None
-}
-
-/// The first fault of all instructions, by rank.
-pub(crate) fn fault_of_steps(input: &Input) -> Option<Fault>
-    ensures { IsFirst IsEarlierStep (λ s. step_fault input.now s.0 s.1) result }
-{
-    for rank in 0..input.ranks() {
-        let fault = rank_fault(input, rank);
-        if fault.is_some() {
-            return fault;
-        }
-    }
-    None
 }

@@ -1,11 +1,11 @@
 //! The faults of the tapes.
 ghost use Rattle.std.specs.Prelude.{◌≡◌, ◌<◌, ◌≤◌, true, false, length};
 ghost use Rattle.std.specs.Option.{option_or};
-ghost use Rattle.qm_check.specs.Faults.{IsFirst, IsEarlierTape};
+ghost use Rattle.qm_instr.specs.Programs.{rank_of};
 ghost use Rattle.qm_check.specs.Tapes.{length_fault, tape_fault};
+ghost use Rattle.qm_check.specs.Totals.{totals_of, HasFew};
 
-use crate::Fault;
-use crate::counting::rank_totals;
+use crate::{Fault, Totals};
 use qm_instr::Input;
 use qm_limits::{MOST_OUTCOMES, MOST_PROTOCOL};
 
@@ -25,26 +25,14 @@ fn fault_of_length(rank: u16, own: bool, needs: u64, tape: &[bool]) -> Option<Fa
     })
 }
 
-/// The fault of a rank's own tape, else that of its protocol tape.
-fn fault_of_rank(input: &Input, rank: u16) -> Option<Fault>
-    requires { rank < length input.now.ranks }
+/// The fault of a rank's own tape, else that of its protocol tape, by what its instructions take from them.
+pub(crate) fn fault_of_tapes(input: &Input, rank: u16, takes: Totals) -> Option<Fault>
+    requires known { rank < length input.now.ranks }
+    requires takes { takes ≡ totals_of (rank_of input.now rank).instructions }
+    requires few { HasFew takes }
     ensures { result ≡ option_or (tape_fault input.now rank true)
         (tape_fault input.now rank false) }
 {
-    let totals = rank_totals(input, rank);
-    let own = fault_of_length(rank, true, totals.own, input.own(rank));
-    own.or(fault_of_length(rank, false, totals.protocol, input.protocol(rank)))
-}
-
-/// The first fault of all tapes, by rank.
-pub(crate) fn fault_of_tapes(input: &Input) -> Option<Fault>
-    ensures { IsFirst IsEarlierTape (λ t. tape_fault input.now t.0 t.1) result }
-{
-    for rank in 0..input.ranks() {
-        let fault = fault_of_rank(input, rank);
-        if fault.is_some() {
-            return fault;
-        }
-    }
-    None
+    let own = fault_of_length(rank, true, takes.own, input.own(rank));
+    own.or(fault_of_length(rank, false, takes.protocol, input.protocol(rank)))
 }

@@ -1,3 +1,3 @@
-pub mod Tables
+mod Tables
 pub mod Meetings
-pub mod CircuitLaws
+mod CircuitLaws

@@ -18,15 +18,17 @@ use Rattle.qm_collect.specs.declared.Collective.{Collective}
 use Rattle.qm_collect.specs.declared.Collective.TheVariants.{Bcast, Unbcast, Scatter, Gather, Reduce}
 use Rattle.qm_collect.specs.Table.{line_of, root_of, others, instructions_at}
 use Rattle.qm_collect.specs.Letters.{Wiring, message_letters, met_letters, letters_between, letters_at, collective_letters}
-use Rattle.qm_collect.specs.Laws.{copies, operands, dealt, gathered}
+use Rattle.qm_collect.specs.Laws.{copies, operands, dealt_wires, gathered_wires}
 use Rattle.qm_collect.proofs.Tables.{others-step, at_other, at_root}
 
 -- both ends on one lane
-met : (a : Lane) (v u f : Wire) → met_letters (Some a) (Some a) v u f ≡ message_letters a.kind v u f
+pub met : (a : Lane) (v u f : Wire)
+    → met_letters (Some a) (Some a) v u f ≡ message_letters a.kind v u f
 met a v u f = ap (λ b. cond b (message_letters a.kind v u f) []) (lane_itself a)
 
 -- what holds of each message of the root holds of their list
-flat_map-others : (f : Instr → List Letter) (m : ℕ → Instr) (g : ℕ → List Letter) (root : ℕ) → ((d : ℕ) → d ≢ root → f (m d) ≡ g d)
+flat_map-others : (f : Instr → List Letter) (m : ℕ → Instr) (g : ℕ → List Letter) (root : ℕ)
+    → ((d : ℕ) → d ≢ root → f (m d) ≡ g d)
     → (n : ℕ) → flat_map f (map m (others root n)) ≡ flat_map g (others root n)
 flat_map-others f m g root h zero = refl
 flat_map-others f m g root h (suc n) =
@@ -69,22 +71,27 @@ module _ (w : Wiring) (n root : ℕ) (calls : ℕ → Collective) where
 module _ (w : Wiring) (n root tag : ℕ) (q : ℕ → ℕ) where
   pub letters-bcast : collective_letters w n root (λ r. Bcast (q r) root tag) ≡ broadcasting (w.slot root (q root)) (copies w n root)
   letters-bcast =
-      letters_by w n root (λ r. Bcast (q r) root tag) refl (λ d. Cx (w.slot root (q root)) (w.sent root d) ∷ []) each ∙ listed (others root n)
+      letters_by w n root (λ r. Bcast (q r) root tag) refl (λ d. Cx (w.slot root (q root)) (w.sent root d) ∷ []) each
+      ∙ listed (others root n)
     where
-      each : (d : ℕ) → d ≢ root → letters_at w (λ r. instructions_at (Bcast (q r) root tag) r n) root (instr.CopyTo (q root) d tag) ≡ Cx (w.slot root (q root)) (w.sent root d) ∷ []
+      each : (d : ℕ) → d ≢ root
+          → letters_at w (λ r. instructions_at (Bcast (q r) root tag) r n) root (instr.CopyTo (q root) d tag) ≡ Cx (w.slot root (q root)) (w.sent root d) ∷ []
       each d other =
           one_end w n root (λ r. Bcast (q r) root tag) (instr.CopyTo (q root) d tag) d other refl
           ∙ ap (λ ls. (ls ++ []) ++ []) (met (lane root d kind.Copy tag) (w.slot root (q root)) (w.slot d (q d)) (w.sent root d))
 
-      listed : (ds : List ℕ) → flat_map (λ d. Cx (w.slot root (q root)) (w.sent root d) ∷ []) ds ≡ broadcasting (w.slot root (q root)) (map (w.sent root) ds)
+      listed : (ds : List ℕ)
+          → flat_map (λ d. Cx (w.slot root (q root)) (w.sent root d) ∷ []) ds ≡ broadcasting (w.slot root (q root)) (map (w.sent root) ds)
       listed [] = refl
       listed (d ∷ ds) = ap (λ ls. Cx (w.slot root (q root)) (w.sent root d) ∷ ls) (listed ds)
 
   -- the letters at wires that lie where others lay
-  pub letters-unbcast : (v : Wire) (f : ℕ → Wire) → w.slot root (q root) ≡ v → ((d : ℕ) → d ≢ root → w.slot d (q d) ≡ f d)
+  pub letters-unbcast : (v : Wire) (f : ℕ → Wire) → w.slot root (q root) ≡ v
+      → ((d : ℕ) → d ≢ root → w.slot d (q d) ≡ f d)
       → collective_letters w n root (λ r. Unbcast (q r) root tag) ≡ unbroadcasting v (map f (others root n))
   letters-unbcast v f source held =
-      letters_by w n root (λ r. Unbcast (q r) root tag) refl (λ d. Cx v (f d) ∷ Take (f d) false ∷ []) each ∙ listed (others root n)
+      letters_by w n root (λ r. Unbcast (q r) root tag) refl (λ d. Cx v (f d) ∷ Take (f d) false ∷ []) each
+      ∙ listed (others root n)
     where
       each : (d : ℕ) → d ≢ root
           → letters_at w (λ r. instructions_at (Unbcast (q r) root tag) r n) root (instr.UndoFrom (q root) d tag) ≡ Cx v (f d) ∷ Take (f d) false ∷ []
@@ -94,27 +101,32 @@ module _ (w : Wiring) (n root tag : ℕ) (q : ℕ → ℕ) where
           ∙ ap (λ u. Cx u (w.slot d (q d)) ∷ Take (w.slot d (q d)) false ∷ []) source
           ∙ ap (λ g. Cx v g ∷ Take g false ∷ []) (held d other)
 
-      listed : (ds : List ℕ) → flat_map (λ d. Cx v (f d) ∷ Take (f d) false ∷ []) ds ≡ unbroadcasting v (map f ds)
+      listed : (ds : List ℕ)
+          → flat_map (λ d. Cx v (f d) ∷ Take (f d) false ∷ []) ds ≡ unbroadcasting v (map f ds)
       listed [] = refl
       listed (d ∷ ds) = ap (λ ls. Cx v (f d) ∷ Take (f d) false ∷ ls) (listed ds)
 
-  pub letters-reduce : (t : ℕ → ℕ) → collective_letters w n root (λ r. Reduce (q r) (t r) root tag) ≡ crossings (operands w n root q) (w.slot root (t root))
+  pub letters-reduce : (t : ℕ → ℕ)
+      → collective_letters w n root (λ r. Reduce (q r) (t r) root tag) ≡ crossings (operands w n root q) (w.slot root (t root))
   letters-reduce t =
       letters_by w n root (λ r. Reduce (q r) (t r) root tag) refl (λ d. Cx (w.slot d (q d)) (w.slot root (t root)) ∷ []) each
       ∙ ap (λ ls. Cx (w.slot root (q root)) (w.slot root (t root)) ∷ ls) (listed (others root n))
     where
-      each : (d : ℕ) → d ≢ root → letters_at w (λ r. instructions_at (Reduce (q r) (t r) root tag) r n) root (instr.ReachFrom (t root) d tag) ≡ Cx (w.slot d (q d)) (w.slot root (t root)) ∷ []
+      each : (d : ℕ) → d ≢ root
+          → letters_at w (λ r. instructions_at (Reduce (q r) (t r) root tag) r n) root (instr.ReachFrom (t root) d tag) ≡ Cx (w.slot d (q d)) (w.slot root (t root)) ∷ []
       each d other =
           one_end w n root (λ r. Reduce (q r) (t r) root tag) (instr.ReachFrom (t root) d tag) d other refl
           ∙ ap (λ ls. ls ++ []) (met (lane d root kind.Reach tag) (w.slot d (q d)) (w.slot root (t root)) (w.sent d root))
 
-      listed : (ds : List ℕ) → flat_map (λ d. Cx (w.slot d (q d)) (w.slot root (t root)) ∷ []) ds ≡ crossings (map (λ d. w.slot d (q d)) ds) (w.slot root (t root))
+      listed : (ds : List ℕ)
+          → flat_map (λ d. Cx (w.slot d (q d)) (w.slot root (t root)) ∷ []) ds ≡ crossings (map (λ d. w.slot d (q d)) ds) (w.slot root (t root))
       listed [] = refl
       listed (d ∷ ds) = ap (λ ls. Cx (w.slot d (q d)) (w.slot root (t root)) ∷ ls) (listed ds)
 
-  pub letters-scatter : collective_letters w n root (λ r. Scatter (q r) root tag) ≡ renaming (dealt w n root (q root))
+  pub letters-scatter : collective_letters w n root (λ r. Scatter (q r) root tag) ≡ renaming (dealt_wires w n root (q root))
   letters-scatter =
-      letters_by w n root (λ r. Scatter (q r) root tag) refl (λ d. Rename (w.slot root (q root + d)) (w.sent root d) ∷ []) each ∙ listed (others root n)
+      letters_by w n root (λ r. Scatter (q r) root tag) refl (λ d. Rename (w.slot root (q root + d)) (w.sent root d) ∷ []) each
+      ∙ listed (others root n)
     where
       each : (d : ℕ) → d ≢ root
           → letters_at w (λ r. instructions_at (Scatter (q r) root tag) r n) root (instr.MoveTo (q root + d) d tag) ≡ Rename (w.slot root (q root + d)) (w.sent root d) ∷ []
@@ -122,14 +134,16 @@ module _ (w : Wiring) (n root tag : ℕ) (q : ℕ → ℕ) where
           one_end w n root (λ r. Scatter (q r) root tag) (instr.MoveTo (q root + d) d tag) d other refl
           ∙ ap (λ ls. (ls ++ []) ++ []) (met (lane root d kind.Move tag) (w.slot root (q root + d)) (w.slot d (q d)) (w.sent root d))
 
-      listed : (ds : List ℕ) → flat_map (λ d. Rename (w.slot root (q root + d)) (w.sent root d) ∷ []) ds
+      listed : (ds : List ℕ)
+          → flat_map (λ d. Rename (w.slot root (q root + d)) (w.sent root d) ∷ []) ds
           ≡ renaming (map (λ d. (w.slot root (q root + d), w.sent root d)) ds)
       listed [] = refl
       listed (d ∷ ds) = ap (λ ls. Rename (w.slot root (q root + d)) (w.sent root d) ∷ ls) (listed ds)
 
-  pub letters-gather : collective_letters w n root (λ r. Gather (q r) root tag) ≡ renaming (gathered w n root q)
+  pub letters-gather : collective_letters w n root (λ r. Gather (q r) root tag) ≡ renaming (gathered_wires w n root q)
   letters-gather =
-      letters_by w n root (λ r. Gather (q r) root tag) refl (λ d. Rename (w.slot d (q d)) (w.sent d root) ∷ []) each ∙ listed (others root n)
+      letters_by w n root (λ r. Gather (q r) root tag) refl (λ d. Rename (w.slot d (q d)) (w.sent d root) ∷ []) each
+      ∙ listed (others root n)
     where
       each : (d : ℕ) → d ≢ root
           → letters_at w (λ r. instructions_at (Gather (q r) root tag) r n) root (instr.MoveFrom (q root + d) d tag) ≡ Rename (w.slot d (q d)) (w.sent d root) ∷ []
@@ -137,6 +151,7 @@ module _ (w : Wiring) (n root tag : ℕ) (q : ℕ → ℕ) where
           one_end w n root (λ r. Gather (q r) root tag) (instr.MoveFrom (q root + d) d tag) d other refl
           ∙ ap (λ ls. ls ++ []) (met (lane d root kind.Move tag) (w.slot d (q d)) (w.slot root (q root + d)) (w.sent d root))
 
-      listed : (ds : List ℕ) → flat_map (λ d. Rename (w.slot d (q d)) (w.sent d root) ∷ []) ds ≡ renaming (map (λ d. (w.slot d (q d), w.sent d root)) ds)
+      listed : (ds : List ℕ)
+          → flat_map (λ d. Rename (w.slot d (q d)) (w.sent d root) ∷ []) ds ≡ renaming (map (λ d. (w.slot d (q d), w.sent d root)) ds)
       listed [] = refl
       listed (d ∷ ds) = ap (λ ls. Rename (w.slot d (q d)) (w.sent d root) ∷ ls) (listed ds)

@@ -29,7 +29,8 @@ length-others root (suc n) =
     ]
 
 -- below the root the j-th is j, and from there on it is the next one
-pub get_or-others : (root n j d : ℕ) → j < length (others root n) → get_or (others root n) j d ≡ cond (ltb j root) j (j + 1)
+pub get_or-others : (root n j d : ℕ) → j < length (others root n)
+    → get_or (others root n) j d ≡ cond (ltb j root) j (j + 1)
 get_or-others root zero j d below = absurd (omega arith)
 get_or-others root (suc n) j d below = elim (others-step root n) [
   | inl s ↦
@@ -39,13 +40,16 @@ get_or-others root (suc n) j d below = elim (others-step root n) [
   | inr s ↦
       let long = ap length s.1 in
       let within : j < length (others root n ++ n ∷ []) = omega arith in
-      ap (λ xs. get_or xs j d) s.1 ∙ last (get_or-others root n j d) s.0 within (cases_lt j (length (others root n)))
+      ap (λ xs. get_or xs j d) s.1
+      ∙ last (get_or-others root n j d) s.0 within (cases_lt j (length (others root n)))
 ]
   where
-    newest : n ≢ root → length (others root n) + min 1 (n - root) ≡ n → length (others root n) ≡ j → n ≡ cond (ltb j root) j (j + 1)
+    newest : n ≢ root → length (others root n) + min 1 (n - root) ≡ n → length (others root n) ≡ j
+        → n ≡ cond (ltb j root) j (j + 1)
     newest apart long at = grind (arith, nat_tests)
 
-    last : (j < length (others root n) → get_or (others root n) j d ≡ cond (ltb j root) j (j + 1)) → n ≢ root → j < length (others root n ++ n ∷ [])
+    last : (j < length (others root n) → get_or (others root n) j d ≡ cond (ltb j root) j (j + 1))
+        → n ≢ root → j < length (others root n ++ n ∷ [])
         → (j < length (others root n)) ⊎ (length (others root n) ≤ j) → get_or (others root n ++ n ∷ []) j d ≡ cond (ltb j root) j (j + 1)
     last rest apart within (inl h) = get_or_append_left (others root n) (n ∷ []) d j h ∙ rest h
     last rest apart within (inr h) =
@@ -79,20 +83,23 @@ module _ (root n j : ℕ) (known : root < n) where
 
 -- the list of a rank other than the root, and of the root
 module _ (which : Collective) (rank n : ℕ) where
-  pub at_other : rank ≢ root_of which → instructions_at which rank n ≡ (line_of which).elsewhere ∷ []
+  pub at_other : rank ≢ root_of which
+      → instructions_at which rank n ≡ (line_of which).elsewhere ∷ []
   at_other apart = elim (eqb_tells rank (root_of which)) [
     | inl h ↦ absurd (apart h.1)
     | inr h ↦ ap (λ b. cond b ((line_of which).own ++ map (line_of which).message (others (root_of which) n)) ((line_of which).elsewhere ∷ [])) h.0
   ]
 
-  pub at_root : rank ≡ root_of which → instructions_at which rank n ≡ (line_of which).own ++ map (line_of which).message (others (root_of which) n)
+  pub at_root : rank ≡ root_of which
+      → instructions_at which rank n ≡ (line_of which).own ++ map (line_of which).message (others (root_of which) n)
   at_root is =
       ap (λ b. cond b ((line_of which).own ++ map (line_of which).message (others (root_of which) n)) ((line_of which).elsewhere ∷ []))
       (eq-eqb rank (root_of which) is)
 
   module _ (is : rank ≡ root_of which) where
     -- how many they are
-    pub length-at_root : (own : Option Instr) → option_to_list own ≡ (line_of which).own → root_of which < n
+    pub length-at_root : (own : Option Instr) → option_to_list own ≡ (line_of which).own
+        → root_of which < n
         → length (instructions_at which rank n) ≡ length (option_to_list own) + (n - 1)
     length-at_root own e known =
         let ds = others (root_of which) n in
@@ -106,7 +113,8 @@ module _ (which : Collective) (rank n : ℕ) where
         → slice_get (instructions_at which rank n) j ≡ option_map (line_of which).message (slice_get (others (root_of which) n) j)
     message_alone j e =
         let ds = others (root_of which) n in
-        ap (λ xs. slice_get xs j) (at_root is ∙ ap (λ is. is ++ map (line_of which).message ds) (sym e)) ∙ slice_get-map (line_of which).message ds j
+        ap (λ xs. slice_get xs j) (at_root is ∙ ap (λ is. is ++ map (line_of which).message ds) (sym e))
+        ∙ slice_get-map (line_of which).message ds j
 
     pub message_after : (gate : Instr) (j : ℕ) → gate ∷ [] ≡ (line_of which).own → j ≢ 0
         → slice_get (instructions_at which rank n) j ≡ option_map (line_of which).message (slice_get (others (root_of which) n) (j - 1))

@@ -53,22 +53,22 @@ UnreduceLaw = (c : Circuit) (w : Wiring) (n root tag end : ℕ) (q t : ℕ → �
     ≡ amp c x
 
 -- what a scatter renames: the qubit in slot q + d of the root to the wire that rank d gets
-abbrev pub dealt : Wiring → ℕ → ℕ → ℕ → List (Wire × Wire)
-dealt w n root q = map (λ d. (w.slot root (q + d), w.sent root d)) (others root n)
+abbrev pub dealt_wires : Wiring → ℕ → ℕ → ℕ → List (Wire × Wire)
+dealt_wires w n root q = map (λ d. (w.slot root (q + d), w.sent root d)) (others root n)
 
 -- what a gather renames: the qubit of rank d to the wire that the root gets from it
-abbrev pub gathered : Wiring → ℕ → ℕ → (ℕ → ℕ) → List (Wire × Wire)
-gathered w n root q = map (λ d. (w.slot d (q d), w.sent d root)) (others root n)
+abbrev pub gathered_wires : Wiring → ℕ → ℕ → (ℕ → ℕ) → List (Wire × Wire)
+gathered_wires w n root q = map (λ d. (w.slot d (q d), w.sent d root)) (others root n)
 
 -- after C a scatter has C's amplitude with each wire's new name replaced by its old one, and 0 where an old name is one; so has a gather
 pub record ScatterLaw : Type 0 where
   pub scatter : (w : Wiring) (n root tag : ℕ) (q : ℕ → ℕ)
-      → collective_letters w n root (λ r. Scatter (q r) root tag) ≡ renaming (dealt w n root (q root))
+      → collective_letters w n root (λ r. Scatter (q r) root tag) ≡ renaming (dealt_wires w n root (q root))
   pub gather : (w : Wiring) (n root tag : ℕ) (q : ℕ → ℕ)
-      → collective_letters w n root (λ r. Gather (q r) root tag) ≡ renaming (gathered w n root q)
+      → collective_letters w n root (λ r. Gather (q r) root tag) ≡ renaming (gathered_wires w n root q)
   pub unscatter : (w : Wiring) (n root tag : ℕ) (q : ℕ → ℕ)
-      → collective_letters w n root (λ r. Unscatter (q r) root tag) ≡ renaming (gathered w n root q)
+      → collective_letters w n root (λ r. Unscatter (q r) root tag) ≡ renaming (gathered_wires w n root q)
   pub ungather : (w : Wiring) (n root tag : ℕ) (q : ℕ → ℕ)
-      → collective_letters w n root (λ r. Ungather (q r) root tag) ≡ renaming (dealt w n root (q root))
+      → collective_letters w n root (λ r. Ungather (q r) root tag) ≡ renaming (dealt_wires w n root (q root))
   pub renamed : (c : Circuit) (ps : List (Wire × Wire)) → Distinct (wires_in ps) → (x : Wires)
       → amp (c ++ renaming ps) x ≡ if has_old ps x then zero_number else amp c (with_old ps x)

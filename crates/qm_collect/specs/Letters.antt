@@ -49,7 +49,7 @@ sent_letters w r i s j = met_letters (lane_sent r i) (lane_received s j) (w.slot
 abbrev pub letters_between : Wiring → ℕ → Instr → ℕ → Instr → List Letter
 letters_between w r i s j = sent_letters w r i s j ++ sent_letters w s j r i
 
--- the letters of a controlled-not, the only gate of a collective
+-- the letters of a controlled-not, the only instruction of a collective that is no message
 abbrev pub gate_letters : (ℕ → Wire) → Instr → List Letter
 gate_letters slot (instr.Do (gate.Cx c t)) = Cx (slot c) (slot t) ∷ []
 gate_letters slot i = []

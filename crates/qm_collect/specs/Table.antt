@@ -17,27 +17,27 @@ abbrev pub line : List Instr → (ℕ → Instr) → Instr → Line
 line own message elsewhere = record { own = own; message = message; elsewhere = elsewhere }
 
 -- the root keeps the qubit in slot q + root, and deals out the others
-abbrev pub scattering : ℕ → ℕ → ℕ → Line
-scattering q root tag = line [] (λ d. instr.MoveTo (q + d) d tag) (instr.MoveFrom q root tag)
+abbrev pub scatter_line : ℕ → ℕ → ℕ → Line
+scatter_line q root tag = line [] (λ d. instr.MoveTo (q + d) d tag) (instr.MoveFrom q root tag)
 
 -- the root collects the others' qubits, that of rank d into slot q + d
-abbrev pub gathering : ℕ → ℕ → ℕ → Line
-gathering q root tag = line [] (λ d. instr.MoveFrom (q + d) d tag) (instr.MoveTo q root tag)
+abbrev pub gather_line : ℕ → ℕ → ℕ → Line
+gather_line q root tag = line [] (λ d. instr.MoveFrom (q + d) d tag) (instr.MoveTo q root tag)
 
 -- the root's target takes a controlled-not from the root's own qubit and from each other rank's
-abbrev pub reducing : ℕ → ℕ → ℕ → ℕ → Line
-reducing q t root tag = line (instr.Do (gate.Cx q t) ∷ []) (λ d. instr.ReachFrom t d tag) (instr.ReachTo q root tag)
+abbrev pub reduce_line : ℕ → ℕ → ℕ → ℕ → Line
+reduce_line q t root tag = line (instr.Do (gate.Cx q t) ∷ []) (λ d. instr.ReachFrom t d tag) (instr.ReachTo q root tag)
 
 -- the table
 abbrev pub line_of : Collective → Line
 line_of (Bcast q root tag) = line [] (λ d. instr.CopyTo q d tag) (instr.CopyFrom q root tag)
 line_of (Unbcast q root tag) = line [] (λ d. instr.UndoFrom q d tag) (instr.UndoTo q root tag)
-line_of (Scatter q root tag) = scattering q root tag
-line_of (Gather q root tag) = gathering q root tag
-line_of (Unscatter q root tag) = gathering q root tag
-line_of (Ungather q root tag) = scattering q root tag
-line_of (Reduce q t root tag) = reducing q t root tag
-line_of (Unreduce q t root tag) = reducing q t root tag
+line_of (Scatter q root tag) = scatter_line q root tag
+line_of (Gather q root tag) = gather_line q root tag
+line_of (Unscatter q root tag) = gather_line q root tag
+line_of (Ungather q root tag) = scatter_line q root tag
+line_of (Reduce q t root tag) = reduce_line q t root tag
+line_of (Unreduce q t root tag) = reduce_line q t root tag
 
 -- the root of a collective
 abbrev pub root_of : Collective → ℕ

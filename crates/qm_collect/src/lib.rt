@@ -7,9 +7,6 @@ mod worked;
 
 pub use table::{count, instr_at};
 
-#[cfg(test)]
-mod tests;
-
 /// A collective, as one rank writes it.
 ///
 /// `q` and `t` are slots of the rank; `root` is the rank that deals out or gathers in, and `tag` is that of the messages.

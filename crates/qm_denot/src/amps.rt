@@ -1,5 +1,5 @@
 //! What every store of amplitudes does: the letters of circuits, and questions about branches.
-ghost use Rattle.std.specs.Prelude.{◌≡◌, ◌≢◌, ◌+◌, ◌<◌, ◌↔◌, true, false, List, [], ◌∷◌, ◌++◌, length, All, Contains, OnOk, OnErr, IsErr};
+ghost use Rattle.std.specs.Prelude.{◌≡◌, ◌≢◌, ◌+◌, ◌<◌, ◌↔◌, true, false, List, [], ◌∷◌, ◌++◌, length, All, Contains, IsTrue, OnOk, OnErr, IsErr};
 ghost use Rattle.qm_zomega.specs.Zw.{value_of};
 ghost use Rattle.qm_zomega.specs.Numbers.{zero_number};
 ghost use Rattle.qm_denot.specs.Wires.{Wires, has};
@@ -29,6 +29,13 @@ pub trait Amps: Drop {
     fn live(&self) -> &[Wire]
         ensures live { result.now ≡ (store self.now).live }
         ensures once { Distinct result.now };
+
+    /// Whether a wire is live.
+    fn is_live(&self, w: Wire) -> bool
+        ensures { IsTrue result ↔ Contains (store self.now).live w }
+    {
+        self.live().contains(&w)
+    }
 
     /// The capacity less the number of live wires.
     fn room(&self) -> u32

@@ -4,9 +4,6 @@
 mod amps;
 pub mod laws;
 mod plain;
-#[cfg(test)]
-mod tests;
-#[cfg(test)]
 mod worked;
 
 pub use amps::{Amps, Overflow};

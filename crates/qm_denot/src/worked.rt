@@ -7,8 +7,3 @@ ghost use Rattle.qm_denot.specs.WorkedCircuits.{WorkedCircuits};
 fn worked_circuits()
     ensures { WorkedCircuits }
 {}
-
-#[test]
-fn definitions_agree_with_the_worked_circuits() {
-    worked_circuits();
-}

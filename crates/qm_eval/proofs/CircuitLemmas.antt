@@ -11,7 +11,7 @@ use Rattle.qm_instr.specs.Programs.{Programs, IsInRange}
 use Rattle.qm_check.specs.Checks.{IsReady}
 use Rattle.qm_proto.specs.Model.Ideal.{IdealState, ideal_replay, width_from}
 use Rattle.qm_proto.proofs.Firsts.{one_run-ideal}
-use Rattle.qm_runs.proofs.Confluence.OnePlace.{InSlot}
+use Rattle.qm_confluence.proofs.Confluence.OnePlace.{InSlot}
 use Rattle.qm_ideal.specs.OneCircuits.{OneView, RankEnd, IsOneCircuit, slot_of, wires_in, no_rank, most_letters}
 use Rattle.qm_ideal.specs.OneRuns.{IsItsEnd}
 use Rattle.qm_ideal.proofs.RunBounds.{letters_bound}

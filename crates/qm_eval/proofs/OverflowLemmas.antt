@@ -9,7 +9,7 @@ use Rattle.qm_denot.specs.Stores.{Store, StandsFor, MayGrow, LeavesRange, Overfl
 use Rattle.qm_denot.proofs.Unique.{one_form, exponent_at_most}
 use Rattle.qm_eval.specs.Overflows.{OverflowsAt}
 use Rattle.qm_eval.specs.Laws.{FirstOverflowLaw}
-use Rattle.qm_runs.proofs.Tables.Counting.{halvings-le}
+use Rattle.qm_proto.proofs.Counting.{halvings-le}
 use Rattle.qm_ideal.specs.OneCircuits.{most_letters}
 
 -- ---- the exponent of a short circuit can grow

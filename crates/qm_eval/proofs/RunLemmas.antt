@@ -11,19 +11,19 @@ use Rattle.qm_denot.proofs.OperandFacts.{Each, EachOperand}
 use Rattle.qm_denot.proofs.Sets.{same_from_is}
 use Rattle.qm_instr.specs.Programs.{Programs, IsInRange}
 use Rattle.qm_check.specs.Checks.{IsReady}
-use Rattle.qm_proto.specs.Model.Ideal.{IdealTables, IdealState, ideal_enabled, ideal_made, ideal_next, ideal_at_start, ideal_replay, IsIdealFrom, IsIdealRun}
-use Rattle.qm_runs.proofs.Confluence.ByView.{letters_by, acts_by, view}
-use Rattle.qm_runs.proofs.Confluence.Diamond.{next_is}
-use Rattle.qm_runs.proofs.Confluence.Effects.{stepped}
-use Rattle.qm_runs.proofs.Confluence.Helpers.{next_where_able}
-use Rattle.qm_runs.proofs.Confluence.NamedWires.{IsWellState, state_next}
-use Rattle.qm_runs.proofs.Confluence.ProperLetters.{letters_proper}
-use Rattle.qm_runs.proofs.Confluence.WellIdeal.{well_start}
+use Rattle.qm_proto.specs.Model.Ideal.{IdealTables, IdealState, ideal_enabled, ideal_wire_made, ideal_next, ideal_at_start, ideal_replay, IsIdealFrom, IsIdealRun}
+use Rattle.qm_confluence.proofs.Confluence.ByView.{letters_by, acts_by, view}
+use Rattle.qm_confluence.proofs.Confluence.Diamond.{next_is}
+use Rattle.qm_confluence.proofs.Confluence.Effects.{stepped}
+use Rattle.qm_confluence.proofs.Confluence.Helpers.{next_where_able}
+use Rattle.qm_confluence.proofs.Confluence.NamedWires.{IsWellState, state_next}
+use Rattle.qm_confluence.proofs.Confluence.ProperLetters.{letters_proper}
+use Rattle.qm_confluence.proofs.Confluence.WellIdeal.{well_start}
 use Rattle.qm_eval.specs.Live.{live_past, live_through}
 use Rattle.qm_eval.proofs.ListLemmas.{lacks-also}
 use Rattle.qm_eval.proofs.LiveLemmas.{Tracks, tracks_weaker, AllFollow, named_through, follow-append, pass}
 use Rattle.qm_eval.proofs.StepLemmas.{IsSomewhere, IsKnown, letters_come, operands_known, known_after}
-use Rattle.qm_runs.specs.Following.Follows.{IsCounted}
+use Rattle.qm_confluence.specs.Counted.{IsCounted}
 
 -- ---- what is named after letters was named before, or is an operand of theirs
 module _ (P : Wire → Type 0) where
@@ -46,7 +46,7 @@ module _ (P : Wire → Type 0) where
       by_bool true b x y f = in_list (operands l) w h.0 (y ∙ f)
 
 -- the wire that a rank counts next is not counted yet
-uncounted : (t : IdealTables) (r : ℕ) → ¬ IsCounted t (ideal_made t r)
+uncounted : (t : IdealTables) (r : ℕ) → ¬ IsCounted t (ideal_wire_made t r)
 uncounted t r c = let below : (t.parts r).made < (t.parts r).made = c.below in omega (arith, below)
 
 module _ (p : Programs) (ready : IsReady p) (ranges : IsInRange p) where
@@ -63,15 +63,15 @@ module _ (p : Programs) (ready : IsReady p) (ranges : IsInRange p) where
     abbrev named : List Wire
     named = named_through [] s.circuit
 
-    made_unnamed : lacks named (ideal_made s.tables r) ≡ true
+    made_unnamed : lacks named (ideal_wire_made s.tables r) ≡ true
     made_unnamed =
-        true_from_ne_false (lacks named (ideal_made s.tables r))
-        (λ e. uncounted s.tables r (named_in (IsCounted s.tables) s.circuit [] (ideal_made s.tables r) h.state.named (λ f. absurd (let n : ⊥ = cc in n)) e))
+        true_from_ne_false (lacks named (ideal_wire_made s.tables r))
+        (λ e. uncounted s.tables r (named_in (IsCounted s.tables) s.circuit [] (ideal_wire_made s.tables r) h.state.named (λ f. absurd (let n : ⊥ = cc in n)) e))
 
-    made_unlive : lacks live (ideal_made s.tables r) ≡ true
+    made_unlive : lacks live (ideal_wire_made s.tables r) ≡ true
     made_unlive =
-        true_from_ne_false (lacks live (ideal_made s.tables r))
-        (λ e. let n = h.tracks.within (ideal_made s.tables r) e in let m = made_unnamed in cc)
+        true_from_ne_false (lacks live (ideal_wire_made s.tables r))
+        (λ e. let n = h.tracks.within (ideal_wire_made s.tables r) e in let m = made_unnamed in cc)
 
     tracks_known : Tracks live named (IsKnown s.tables r)
     tracks_known = record {

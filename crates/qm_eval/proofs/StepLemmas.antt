@@ -24,16 +24,16 @@ use Rattle.qm_check.specs.Operands.{uses_of}
 use Rattle.qm_check.specs.Slots.{full_after}
 use Rattle.qm_check.proofs.Faultless.{FindsSlots, before}
 use Rattle.qm_proto.specs.Model.Rows.{gate_letter}
-use Rattle.qm_proto.specs.Model.Ideal.{IdealTables, IdealAct, Counts, SlotSet, Puts, Takes, OwnUsed, BitSet, Load, Carried, Token, ideal_holds, ideal_made, wire_carried, load_at}
+use Rattle.qm_proto.specs.Model.Ideal.{IdealTables, IdealAct, Counts, SlotSet, Puts, Takes, OwnUsed, BitSet, Load, Carried, Token, ideal_holds, ideal_wire_made, wire_carried, load_at}
 use Rattle.qm_proto.proofs.Changes.{by_number, number_itself}
-use Rattle.qm_runs.proofs.Confluence.ByView.{View, slot_wire, bit_in, made_in, rule_of, letters_by, acts_by, view}
-use Rattle.qm_runs.proofs.Confluence.Effects.{stepped, slot_act, lane_act, slot_stepped, slot_elsewhere, lane_stepped}
-use Rattle.qm_runs.proofs.Confluence.Helpers.{IsNext}
-use Rattle.qm_runs.proofs.Confluence.LetterWires.{IsReached, Made, Own, Offered, letters_reached, slot_found, made_new}
-use Rattle.qm_runs.proofs.Confluence.OnePlace.{ArePlaced, AllCarried, Spot, InSlot, OnLane, Stands, carries}
-use Rattle.qm_runs.proofs.Confluence.WellIdeal.{IsWell, at_step}
+use Rattle.qm_confluence.proofs.Confluence.ByView.{View, slot_wire, bit_in, made_in, rule_of, letters_by, acts_by, view}
+use Rattle.qm_confluence.proofs.Confluence.Effects.{stepped, slot_act, lane_act, slot_stepped, slot_elsewhere, lane_stepped}
+use Rattle.qm_confluence.proofs.Confluence.Helpers.{IsNextInstr}
+use Rattle.qm_confluence.proofs.Confluence.LetterWires.{IsReached, Made, Own, Offered, letters_reached, slot_found, made_new}
+use Rattle.qm_confluence.proofs.Confluence.OnePlace.{ArePlaced, AllCarried, Spot, InSlot, OnLane, Stands, carries}
+use Rattle.qm_confluence.proofs.Confluence.WellIdeal.{IsWellIdeal, at_step}
 use Rattle.qm_eval.proofs.LiveLemmas.{GivesNone, MayCome, AllMayCome, given}
-use Rattle.qm_runs.proofs.Following.IdealWires.{contains_drop}
+use Rattle.qm_confluence.proofs.Confluence.IdealWires.{contains_drop}
 
 -- ---- where a wire stands after acts
 -- some act brings the wire to a place
@@ -162,7 +162,7 @@ IsSomewhere t w = (z : Spot) × Stands t w z
 
 -- or it is the one that the rank counts next
 abbrev pub IsKnown : IdealTables → ℕ → Wire → Type 0
-IsKnown t r w = IsSomewhere t w ⊎ (w ≡ ideal_made t r)
+IsKnown t r w = IsSomewhere t w ⊎ (w ≡ ideal_wire_made t r)
 
 front_there : (xs : List Load) → nat_lt 0 (length xs) ≡ true → AllCarried xs → Contains xs (Carried (wire_carried (slice_index_or xs 0 Token)))
 front_there [] some h = cc
@@ -186,7 +186,7 @@ module _ (p : Programs) (t : IdealTables) (placed : ArePlaced t) (r : ℕ) where
   brought (instr.ReachFrom q from tag) w holds h = elim h [ inl n ↦ cc | inr n ↦ absurd n ]
   brought _ w holds h = absurd h
 
-module _ (p : Programs) (ready : IsReady p) (ranges : IsInRange p) (t : IdealTables) (well : IsWell p t) (r : ℕ) (known : r < length p.ranks) (i : Instr) (next : IsNext p t r i) where
+module _ (p : Programs) (ready : IsReady p) (ranges : IsInRange p) (t : IdealTables) (well : IsWellIdeal p t) (r : ℕ) (known : r < length p.ranks) (i : Instr) (next : IsNextInstr p t r i) where
   abbrev v : View
   v = view p t r i
 

@@ -9,8 +9,6 @@ ghost use Rattle.qm_eval.specs.Overflows.{IsFirstOverflow};
 
 pub mod laws;
 mod letters;
-#[cfg(test)]
-mod tests;
 mod wires;
 
 use letters::do_letters;

@@ -6,6 +6,7 @@ use Rattle.qm_lex.specs.declared.tokens.TokenKind.{TokenKind}
 use Rattle.qm_lex.specs.declared.tokens.TokenKind.TheVariants as kind
 use Rattle.qm_parse.specs.declared.words.Reserved.{Reserved}
 use Rattle.qm_parse.specs.declared.words.Reserved.TheVariants as reserved
+use Rattle.qm_parse.specs.declared.words.Version.TheVariants as version
 use Rattle.qm_parse.specs.Words.{reserved_of}
 use Rattle.qm_parse.specs.Signs.{Sign, Act, Ident, word_sign, sign, bytes_of, sign_of, signs_of}
 use Rattle.qm_expand.specs.Walk.{Bytes, bytes_in, token_bytes, verb_meant, verb_in}
@@ -31,13 +32,13 @@ says-split bytes (x ∷ xs) ys at h =
     ((h.0, r.0), says-at bytes ys (at + 1 + length xs) (at + length (x ∷ xs)) (omega arith) r.1)
 
 -- ---- the tokens of a text
-said-word : (word : List ℕ) (r : Option Reserved) → reserved_of word ≡ r → SaidBy (word_sign word r) word
+said-word : (word : List ℕ) (r : Option Reserved) → reserved_of version.One word ≡ r → SaidBy (word_sign word r) word
 said-word word (Some (reserved.Keyword k)) e = tt
 said-word word (Some (reserved.Verb v)) e = ap verb_meant e
 said-word word None e = refl
 
-said-token : (k : TokenKind) (bytes : List ℕ) → SaidBy (sign k bytes) bytes
-said-token kind.Word bytes = said-word bytes (reserved_of bytes) refl
+said-token : (k : TokenKind) (bytes : List ℕ) → SaidBy (sign version.One k bytes) bytes
+said-token kind.Word bytes = said-word bytes (reserved_of version.One bytes) refl
 said-token kind.Number bytes = tt
 said-token kind.Symbol bytes = tt
 
@@ -46,7 +47,7 @@ says-from text tokens [] at h = tt
 says-from text tokens (u ∷ us) at h =
     let here : at ≡ at + 0 = omega arith in
     let is : token_bytes text (slice_get tokens at) ≡ bytes_of text u = ap (λ n. token_bytes text (slice_get tokens n)) here ∙ ap (token_bytes text) (h 0) in (
-      subst (λ (w : List ℕ). SaidBy (sign_of text u) w) (sym is) (said-token u.kind (bytes_of text u)),
+      subst (λ (w : List ℕ). SaidBy (sign_of version.One text u) w) (sym is) (said-token u.kind (bytes_of text u)),
       says-from text tokens us (at + 1) (λ j. let n : at + 1 + j ≡ at + suc j = omega arith in ap (slice_get tokens) n ∙ h (suc j)),
     )
 

@@ -13,6 +13,7 @@ use Rattle.qm_lex.specs.Spans.{SpansRise, LieIn}
 use Rattle.qm_parse.specs.declared.words.Reserved.{Reserved}
 use Rattle.qm_parse.specs.declared.words.Reserved.TheVariants as reserved
 use Rattle.qm_parse.specs.declared.words.Keyword.TheVariants as keyword
+use Rattle.qm_parse.specs.declared.words.Version.TheVariants as version
 use Rattle.qm_parse.specs.Words.{reserved_of}
 use Rattle.qm_parse.specs.Signs.{Sign, Number, Key, Ident, word_sign, sign, bytes_of, sign_of, signs_of}
 use Rattle.qm_parse.specs.Trees.{Call, Body, Nothing, Then, Stmt, Do, DoUnder, For, Blocks, ForAll, ForEach, TapeLine, Program}
@@ -159,8 +160,8 @@ word-size word (Some (reserved.Keyword k)) = omega arith
 word-size word (Some (reserved.Verb v)) = omega arith
 word-size word None = omega arith
 
-token-size : (k : TokenKind) (bytes : List ℕ) → name_size (sign k bytes) ≤ length bytes
-token-size kind.Word bytes = word-size bytes (reserved_of bytes)
+token-size : (k : TokenKind) (bytes : List ℕ) → name_size (sign version.One k bytes) ≤ length bytes
+token-size kind.Word bytes = word-size bytes (reserved_of version.One bytes)
 token-size kind.Number bytes = omega arith
 token-size kind.Symbol bytes = omega arith
 
@@ -170,7 +171,7 @@ signs-size text from end (t ∷ ts) r =
     let more = signs-size text t.stop end ts r.2 in
     let one = token-size t.kind (bytes_of text t) in
     let few : length (bytes_of text t) ≤ t.stop - t.start = omega (arith, length-take (t.stop - t.start) (drop t.start text)) in
-    omega (arith, more, one, few, r.0, r.1, sum_by-cons name_size (sign_of text t) (signs_of text ts))
+    omega (arith, more, one, few, r.0, r.1, sum_by-cons name_size (sign_of version.One text t) (signs_of text ts))
 
 tapes-size : (ts : List TapeLine) → outcome_total ts ≤ sum_by name_size (tapes_signs ts)
 tapes-size [] = omega arith

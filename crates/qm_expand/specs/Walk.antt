@@ -12,6 +12,7 @@ use Rattle.qm_parse.specs.declared.words.Operand.{Operand}
 use Rattle.qm_parse.specs.declared.words.Reserved.{Reserved}
 use Rattle.qm_parse.specs.declared.words.Reserved.TheVariants as reserved
 use Rattle.qm_parse.specs.declared.words.Verb.{Verb}
+use Rattle.qm_parse.specs.declared.words.Version.TheVariants as version
 use Rattle.qm_parse.specs.Words.{reserved_of}
 use Rattle.qm_parse.specs.Signs.{bytes_of}
 use Rattle.qm_parse.specs.Trees.{Program}
@@ -62,7 +63,7 @@ verb_meant (Some (reserved.Verb v)) = Some v
 
 -- the instruction that a word means, if it means one
 abbrev pub verb_in : List ℕ → Option Verb
-verb_in word = verb_meant (reserved_of word)
+verb_in word = verb_meant (reserved_of version.One word)
 
 -- ---- values: the numbers that wait for an operator, the newest first
 -- an operator takes two of them, and leaves its value

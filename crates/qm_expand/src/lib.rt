@@ -15,10 +15,6 @@ mod words;
 pub use laws::{one_reading, some_reading};
 pub use made::Operation;
 pub use reading::read;
-
-#[cfg(test)]
-mod tests;
-
 use thiserror::Error;
 
 /// Why a text has no programs: the first fault of all, by its line.

@@ -7,7 +7,7 @@ ghost use Rattle.qm_expand.specs.Reading.{lines_of};
 ghost use Rattle.qm_expand.specs.Walk.{bytes_in, verb_in};
 
 use qm_lex::Tokens;
-use qm_parse::{Reserved, Verb, reserved_of};
+use qm_parse::{Reserved, Verb, Version, reserved_of};
 
 /// The bytes of a token; none where there are not as many tokens.
 pub(crate) fn bytes<'a>(text: &'a [u8], tokens: &Tokens, token: usize) -> &'a [u8]
@@ -47,7 +47,7 @@ pub(crate) fn verb(text: &[u8], tokens: &Tokens, token: u32) -> Option<Verb>
     requires { LieIn text.now (token_list tokens.now) }
     ensures { result ≡ verb_in (bytes_in text.now (token_list tokens.now) token) }
 {
-    match reserved_of(bytes(text, tokens, token as usize)) {
+    match reserved_of(Version::One, bytes(text, tokens, token as usize)) {
         Some(Reserved::Verb(verb)) => Some(verb),
         _ => None,
     }

@@ -9,6 +9,7 @@ use Rattle.qm_lex.specs.declared.tokens.TokenKind.TheVariants.{Word, Number, Sym
 use Rattle.qm_lex.specs.Bytes.{is_blank, is_digit, is_letter, is_word_byte, is_symbol, is_comment_byte}
 use Rattle.qm_lex.specs.Pieces.{begins_with}
 use Rattle.qm_lex.specs.Lexing.{with_first, line_after, behind, lexed}
+use Rattle.qm_parse.specs.declared.words.Version.TheVariants as version
 use Rattle.qm_parse.specs.Signs.{Sign, sign, bytes_of, signs_of}
 
 -- what stands at the front of a line behind its first byte: so many bytes more of a gap or of a token
@@ -33,7 +34,7 @@ with_sign s (Some ss) = Some (s ∷ ss)
 
 abbrev pub behind_front : (List ℕ → Option (List Sign)) → ℕ → List ℕ → Front → Option (List Sign)
 behind_front more b xs (Skip k) = more (drop k xs)
-behind_front more b xs (Take kind k) = with_sign (sign kind (b ∷ take k xs)) (more (drop k xs))
+behind_front more b xs (Take kind k) = with_sign (sign version.One kind (b ∷ take k xs)) (more (drop k xs))
 behind_front more b xs Nothing = None
 
 -- the signs of a line; the bound is any number that is no less than its gaps and tokens
@@ -134,7 +135,7 @@ gap-lexed whole at b k xs rest ss e h (suc n) line few =
       signs = more.signs;
     }
 
-pub part-lexed : (whole : List ℕ) (at b k : ℕ) (kind : TokenKind) (xs rest : List ℕ) (ss : List Sign) → front b xs ≡ Take kind k → drop at whole ≡ b ∷ (xs ++ 10 ∷ rest) → HasSigns whole (at + (k + 1)) (drop (k + 1) (b ∷ (xs ++ 10 ∷ rest))) ss → HasSigns whole at (b ∷ (xs ++ 10 ∷ rest)) (sign kind (take (k + 1) (b ∷ (xs ++ 10 ∷ rest))) ∷ ss)
+pub part-lexed : (whole : List ℕ) (at b k : ℕ) (kind : TokenKind) (xs rest : List ℕ) (ss : List Sign) → front b xs ≡ Take kind k → drop at whole ≡ b ∷ (xs ++ 10 ∷ rest) → HasSigns whole (at + (k + 1)) (drop (k + 1) (b ∷ (xs ++ 10 ∷ rest))) ss → HasSigns whole at (b ∷ (xs ++ 10 ∷ rest)) (sign version.One kind (take (k + 1) (b ∷ (xs ++ 10 ∷ rest))) ∷ ss)
 unfolding HasSigns
 part-lexed whole at b k kind xs rest ss e there h zero line few = absurd (omega arith)
 part-lexed whole at b k kind xs rest ss e there h (suc n) line few =
@@ -146,5 +147,5 @@ part-lexed whole at b k kind xs rest ss e there h (suc n) line few =
     record {
       tokens = t ∷ more.tokens;
       lexes = lexed-front n at line b xs rest ∙ ap (lexed_behind n at line b (xs ++ 10 ∷ rest)) e ∙ ap (with_first t) more.lexes;
-      signs = ap (λ x. sign kind x ∷ signs_of whole more.tokens) bytes ∙ ap (λ x. sign kind (take (k + 1) text) ∷ x) more.signs;
+      signs = ap (λ x. sign version.One kind x ∷ signs_of whole more.tokens) bytes ∙ ap (λ x. sign version.One kind (take (k + 1) text) ∷ x) more.signs;
     }

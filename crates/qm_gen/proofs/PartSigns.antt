@@ -8,6 +8,7 @@ use Rattle.std.proofs.lemmas.Bool.{and_parts, leb-true}
 use Rattle.std.proofs.lemmas.Fmt.{decimal_by_steps}
 use Rattle.qm_lex.specs.declared.tokens.TokenKind.TheVariants as kind
 use Rattle.qm_lex.specs.Bytes.{is_digit, is_word_byte}
+use Rattle.qm_parse.specs.declared.words.Version.TheVariants as version
 use Rattle.qm_parse.specs.Words.{value_of, bits_word, reserved_of}
 use Rattle.qm_parse.specs.declared.words.Keyword.TheVariants as keyword
 use Rattle.qm_parse.specs.declared.words.Mark.TheVariants as mark
@@ -117,7 +118,7 @@ outcome-bytes (true ∷ ms) = outcome-bytes ms
 outcome-bytes (false ∷ ms) = outcome-bytes ms
 
 -- a word of outcomes isn't reserved
-pub outcomes-free : (ms : List Bool) → reserved_of (bits_word ms) ≡ None
+pub outcomes-free : (ms : List Bool) → reserved_of version.One (bits_word ms) ≡ None
 outcomes-free [] = refl
 outcomes-free (true ∷ ms) = refl
 outcomes-free (false ∷ ms) = refl
@@ -128,8 +129,8 @@ outcomes_signs k ms =
     let ds : List ℕ = map (λ m. if m then 49 else 48) ms in
     let here : front 98 ds ≡ Take kind.Word (length ds) = ap (λ j. Take kind.Word j) (prefix-whole is_word_byte ds (outcome-bytes ms)) in
     ap (behind_front (line_signs k) 98 ds) here
-    ∙ ap (λ x. with_sign (sign kind.Word (98 ∷ x)) (line_signs k (drop (length ds) ds))) (take_whole ds)
-    ∙ ap (λ x. with_sign (sign kind.Word (98 ∷ ds)) (line_signs k x)) (drop_whole ds)
+    ∙ ap (λ x. with_sign (sign version.One kind.Word (98 ∷ x)) (line_signs k (drop (length ds) ds))) (take_whole ds)
+    ∙ ap (λ x. with_sign (sign version.One kind.Word (98 ∷ ds)) (line_signs k x)) (drop_whole ds)
     ∙ ap (λ o. Some (word_sign (98 ∷ ds) o ∷ [])) (outcomes-free ms)
   where
     take_whole : (xs : List ℕ) → take (length xs) xs ≡ xs

@@ -10,7 +10,7 @@ use Rattle.qm_instr.specs.Counts.{protocol_of, own_of}
 use Rattle.qm_instr.specs.Lanes.{is_on, lane_received}
 use Rattle.qm_instr.specs.Programs.{RankProgram, Programs, rank_of}
 use Rattle.qm_check.specs.declared.Fault.TheVariants as fault
-use Rattle.qm_check.specs.Checks.{capacity_of, width_fault, Width, Step, Between, Tape, IsReady}
+use Rattle.qm_check.specs.Checks.{capacity_of, width_fault, AllRanks, AtInstr, OnLane, OnTape, IsReady}
 use Rattle.qm_check.specs.Messages.{posts_on, is_back, lane_sends, lane_receives, match_fault, lane_fault}
 use Rattle.qm_check.specs.Slots.{full_after, fault_if_any, step_fault}
 use Rattle.qm_check.specs.Tapes.{length_fault}
@@ -129,8 +129,8 @@ length-none : (r : ℕ) (own : Bool) (needs has : ℕ) → needs ≡ has → len
 length-none r own needs has same = ap (λ b. if b then None else Some (fault.TapeLength r own needs has)) (eq-eqb needs has same)
 
 pub ready : (size : ℕ) (ps : List Part) (p : Programs) → Runs size ps p → is_sound ps ≡ true → IsReady p
-ready size ps p runs sound Width = width-none p runs.version runs.narrow
-ready size ps p runs sound (Step r k) = step-none size ps p runs sound r k
-ready size ps p runs sound (Between a) = lane-none size ps p runs sound a
-ready size ps p runs sound (Tape r true) = length-none r true _ _ (runs.tapes r).own
-ready size ps p runs sound (Tape r false) = length-none r false _ _ (runs.tapes r).protocol
+ready size ps p runs sound AllRanks = width-none p runs.version runs.narrow
+ready size ps p runs sound (AtInstr r k) = step-none size ps p runs sound r k
+ready size ps p runs sound (OnLane a) = lane-none size ps p runs sound a
+ready size ps p runs sound (OnTape r true) = length-none r true _ _ (runs.tapes r).own
+ready size ps p runs sound (OnTape r false) = length-none r false _ _ (runs.tapes r).protocol

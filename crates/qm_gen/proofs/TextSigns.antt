@@ -3,6 +3,7 @@ use Rattle.std.proofs.Common.{◌≡◌, ℕ, zero, suc, ◌+◌, ◌≤◌, Lis
 use Rattle.std.proofs.lemmas.List.{drop-drop, take-append-le, drop-append-le}
 use Rattle.qm_lex.specs.declared.tokens.Token.{Token}
 use Rattle.qm_lex.specs.Lexing.{tokens_of}
+use Rattle.qm_parse.specs.declared.words.Version.TheVariants as version
 use Rattle.qm_parse.specs.Signs.{Sign, sign, signs_of}
 use Rattle.qm_gen.specs.Made.{Lines, lines_text}
 use Rattle.qm_gen.proofs.LineSigns.{Front, Skip, Take, Nothing, front, with_sign, behind_front, line_signs, IsWithin, front-within, IsLexed, HasSigns, gap-lexed, part-lexed}
@@ -41,13 +42,13 @@ cell-lexed n go whole at b xs rest ss ts (Take kind k) is few e there h = by_mor
     bytes : take (k + 1) (b ∷ (xs ++ 10 ∷ rest)) ≡ b ∷ take k xs
     bytes = ap (λ j. take j (b ∷ (xs ++ 10 ∷ rest))) one ∙ ap (λ t. b ∷ t) (take-append-le k xs (10 ∷ rest) few)
 
-    by_more : (o : Option (List Sign)) → line_signs n (drop k xs) ≡ o → with_sign (sign kind (b ∷ take k xs)) o ≡ Some ss → HasSigns whole at (b ∷ (xs ++ 10 ∷ rest)) (ss ++ ts)
+    by_more : (o : Option (List Sign)) → line_signs n (drop k xs) ≡ o → with_sign (sign version.One kind (b ∷ take k xs)) o ≡ Some ss → HasSigns whole at (b ∷ (xs ++ 10 ∷ rest)) (ss ++ ts)
     by_more None d f = cc
     by_more (Some us) d f =
-        let are : sign kind (b ∷ take k xs) ∷ us ≡ ss = cc in
+        let are : sign version.One kind (b ∷ take k xs) ∷ us ≡ ss = cc in
         let lexed_so = part-lexed whole at b k kind xs rest (us ++ ts) is there (rest-lexed n go whole at b k xs rest us ts few d there h) in
         subst (λ (x : List Sign). HasSigns whole at (b ∷ (xs ++ 10 ∷ rest)) (x ++ ts)) are
-        (subst (λ (x : List ℕ). HasSigns whole at (b ∷ (xs ++ 10 ∷ rest)) (sign kind x ∷ (us ++ ts))) bytes lexed_so)
+        (subst (λ (x : List ℕ). HasSigns whole at (b ∷ (xs ++ 10 ∷ rest)) (sign version.One kind x ∷ (us ++ ts))) bytes lexed_so)
 cell-lexed n go whole at b xs rest ss ts Nothing is few e there h = cc
 
 end-lexed : (whole : List ℕ) (at : ℕ) (rest : List ℕ) (ss ts : List Sign) → Some [] ≡ Some ss → HasSigns whole (at + 0 + 1) rest ts → HasSigns whole at (10 ∷ rest) (ss ++ ts)

@@ -6,8 +6,6 @@ mod laws;
 mod lines;
 mod program;
 mod tapes;
-#[cfg(test)]
-mod tests;
 
 ghost use Rattle.std.specs.Prelude.{◌≡◌, IfOk};
 ghost use Rattle.qm_seed.specs.Seeds.{seed_words};

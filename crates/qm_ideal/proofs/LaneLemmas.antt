@@ -5,9 +5,8 @@ use Rattle.std.specs.BTreeMap.{BTreeMap, get, is_at, Updates, WritesThrough}
 use Rattle.std.specs.declared.alloc.Global.{Global}
 use Rattle.std.specs.declared.collections.VecDeque.{VecDeque}
 use Rattle.qm_instr.specs.declared.Lane.{Lane}
-use Rattle.qm_instr.proofs.LaneOrder.{lane_order-derived, lane_order-equal}
+use Rattle.qm_instr.proofs.LaneOrder.{lane_order-derived, lane_order-equal, equal_from_test}
 use Rattle.qm_instr.specs.Lanes.{code_order}
-use Rattle.qm_check.proofs.TallyLemmas.{equal_from_test}
 use Rattle.qm_proto.specs.Model.State.{with_lane}
 use Rattle.qm_proto.proofs.Changes.{by_lane}
 use Rattle.qm_ideal.specs.declared.lanes.Lanes.{Lanes}

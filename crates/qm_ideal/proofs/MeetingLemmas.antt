@@ -13,17 +13,17 @@ use Rattle.qm_denot.specs.declared.Parcel.{Parcel}
 use Rattle.qm_proto.specs.declared.Row.{Row}
 use Rattle.qm_proto.specs.declared.Rule.{Rule}
 use Rattle.qm_proto.specs.declared.Rule.TheVariants.{Always, PairRoom, Engaged, Filled}
-use Rattle.qm_proto.specs.Model.Acts.{list_of, done, all_done}
+use Rattle.qm_proto.specs.Model.Acts.{list_of, after_act, after_acts}
 use Rattle.qm_proto.specs.Model.Rows.{rows, current, instr_at}
-use Rattle.qm_proto.specs.Model.Runs.{row_in, row_next, row_holds, enabled, has_event, holds, halves, is_wanted, receives_on, moved_on, events_at, row_done, next_tables}
+use Rattle.qm_proto.specs.Model.Runs.{row_in, row_next, row_holds, enabled, has_event, holds, halves, is_wanted, receives_on, part_after_event, events_at, row_tables, next_tables}
 use Rattle.qm_proto.specs.Model.Schedules.{with_buffer_of_one, with_buffers_of_one}
 use Rattle.qm_proto.specs.Model.State.{Part, Tables, with_at, with_lane, no_parcel}
 use Rattle.qm_proto.proofs.Changes.{by_lane, by_number, with_at-here, with_at-elsewhere}
 use Rattle.qm_proto.proofs.Positions.{all_at_kept, all_stage_kept}
-use Rattle.qm_runs.specs.Stuck.Shapes.{moves, Shape, shape_of}
+use Rattle.qm_confluence.specs.Stuck.Shapes.{moves, Shape, shape_of}
 use Rattle.qm_ideal.specs.Meetings.{Stand, has_bits, stand_of, last_set, lanes_after, shape_in, shape_next, is_wanted_at, rule_holds, shape_holds, may_go, gone, go}
-use Rattle.qm_runs.proofs.Stuck.Rendezvous.{one_rank, small}
-use Rattle.qm_runs.proofs.Stuck.Shapes.{rows_shapes}
+use Rattle.qm_confluence.proofs.Stuck.Rendezvous.{one_rank, small}
+use Rattle.qm_confluence.proofs.Stuck.Shapes.{rows_shapes}
 
 -- ---- the lines of an instruction have its shapes
 -- the shape of a row, where there is one
@@ -100,29 +100,29 @@ told_with f a xs =
     (λ e. sym (by_lane (λ ys. ys ≡ map has_bits xs) (told f) a (map has_bits xs) b (λ _. refl) (λ apart. absurd (apart e))))
     (λ apart. sym (by_lane (λ ys. ys ≡ map has_bits (f b)) (told f) a (map has_bits xs) b (λ e. absurd (apart e)) (λ _. refl))))
 
-lanes_moved : (r : ℕ) (acts : List Act) (t : Tables) → told (all_done r acts t).lanes ≡ fold lanes_after (told t.lanes) (moves acts)
+lanes_moved : (r : ℕ) (acts : List Act) (t : Tables) → told (after_acts r acts t).lanes ≡ fold lanes_after (told t.lanes) (moves acts)
 unfolding told
 lanes_moved r [] t = refl
 lanes_moved r (Posts a x ∷ acts) t =
-    lanes_moved r acts (done r (Posts a x) t)
+    lanes_moved r acts (after_act r (Posts a x) t)
     ∙ ap (λ f. fold lanes_after f (moves acts)) (told_with t.lanes a (t.lanes a ++ x ∷ []) ∙ ap (with_lane (told t.lanes) a) (map-append has_bits (t.lanes a) (x ∷ [])))
 lanes_moved r (Fills a b ∷ acts) t =
-    lanes_moved r acts (done r (Fills a b) t)
+    lanes_moved r acts (after_act r (Fills a b) t)
     ∙ ap (λ f. fold lanes_after f (moves acts)) (told_with t.lanes a (filled (t.lanes a) b) ∙ ap (with_lane (told t.lanes) a) (filled_told (t.lanes a) b))
 lanes_moved r (Receives a ∷ acts) t =
-    lanes_moved r acts (done r (Receives a) t)
+    lanes_moved r acts (after_act r (Receives a) t)
     ∙ ap (λ f. fold lanes_after f (moves acts)) (told_with t.lanes a (drop 1 (t.lanes a)) ∙ ap (with_lane (told t.lanes) a) (sym (drop-map has_bits 1 (t.lanes a))))
-lanes_moved r (Fresh q ∷ acts) t = lanes_moved r acts (done r (Fresh q) t)
-lanes_moved r (Twin to ∷ acts) t = lanes_moved r acts (done r (Twin to) t)
-lanes_moved r (Apply l ∷ acts) t = lanes_moved r acts (done r (Apply l) t)
-lanes_moved r (SlotOut q m ∷ acts) t = lanes_moved r acts (done r (SlotOut q m) t)
-lanes_moved r (NearOut m ∷ acts) t = lanes_moved r acts (done r (NearOut m) t)
-lanes_moved r (FarOut f m ∷ acts) t = lanes_moved r acts (done r (FarOut f m) t)
-lanes_moved r (Settle f q ∷ acts) t = lanes_moved r acts (done r (Settle f q) t)
-lanes_moved r (OwnUsed ∷ acts) t = lanes_moved r acts (done r OwnUsed t)
-lanes_moved r (ProtocolUsed ∷ acts) t = lanes_moved r acts (done r ProtocolUsed t)
-lanes_moved r (FirstKept m ∷ acts) t = lanes_moved r acts (done r (FirstKept m) t)
-lanes_moved r (BitSet b v ∷ acts) t = lanes_moved r acts (done r (BitSet b v) t)
+lanes_moved r (Fresh q ∷ acts) t = lanes_moved r acts (after_act r (Fresh q) t)
+lanes_moved r (Twin to ∷ acts) t = lanes_moved r acts (after_act r (Twin to) t)
+lanes_moved r (Apply l ∷ acts) t = lanes_moved r acts (after_act r (Apply l) t)
+lanes_moved r (SlotOut q m ∷ acts) t = lanes_moved r acts (after_act r (SlotOut q m) t)
+lanes_moved r (NearOut m ∷ acts) t = lanes_moved r acts (after_act r (NearOut m) t)
+lanes_moved r (FarOut f m ∷ acts) t = lanes_moved r acts (after_act r (FarOut f m) t)
+lanes_moved r (Settle f q ∷ acts) t = lanes_moved r acts (after_act r (Settle f q) t)
+lanes_moved r (OwnUsed ∷ acts) t = lanes_moved r acts (after_act r OwnUsed t)
+lanes_moved r (ProtocolUsed ∷ acts) t = lanes_moved r acts (after_act r ProtocolUsed t)
+lanes_moved r (FirstKept m ∷ acts) t = lanes_moved r acts (after_act r (FirstKept m) t)
+lanes_moved r (BitSet b v ∷ acts) t = lanes_moved r acts (after_act r (BitSet b v) t)
 
 stands_same : (s u : Stand) → s.at ≡ u.at → s.stage ≡ u.stage → s.lanes ≡ u.lanes → s ≡ u
 stands_same s u at stage lanes =
@@ -140,7 +140,7 @@ moved_stage false x = refl
 
 module _ (p : Programs) (t : Tables) (r n : ℕ) (w : Row) where
   abbrev acted : Tables
-  acted = all_done r (list_of w.acts) t
+  acted = after_acts r (list_of w.acts) t
 
   at_r : (k : ℕ) → ((acted).parts k).at ≡ (t.parts k).at
   at_r k = all_at_kept r k (list_of w.acts) t
@@ -148,14 +148,14 @@ module _ (p : Programs) (t : Tables) (r n : ℕ) (w : Row) where
   stage_r : (k : ℕ) → ((acted).parts k).stage ≡ (t.parts k).stage
   stage_r k = all_stage_kept r k (list_of w.acts) t
 
-  event_done : stand_of (row_done n r (Some w) t) ≡ gone n (stand_of t) r (Some (shape_of w))
+  event_done : stand_of (row_tables n r (Some w) t) ≡ gone n (stand_of t) r (Some (shape_of w))
   unfolding told
   event_done =
       let s = stand_of t in
       let u = acted.parts in
-      let v = row_done n r (Some w) t in
+      let v = row_tables n r (Some w) t in
       let more = nat_lt (s.stage r + 1) n in
-      let x = moved_on n (u r) in
+      let x = part_after_event n (u r) in
       stands_same (stand_of v) (gone n s r (Some (shape_of w)))
       (fun_ext (by_number (λ k. (v.parts k).at ≡ with_at s.at r (cond more (s.at r) (s.at r + 1)) k) r
       (ap (λ (y : Part). y.at) (with_at-here u r x) ∙ moved_at (nat_lt ((u r).stage + 1) n) (u r)
@@ -171,7 +171,7 @@ pub next_same : (p : Programs) (t : Tables) (r : ℕ) → stand_of (next_tables 
 unfolding shape_in_row
 next_same p t r = by_row (row_next p t r) ∙ ap (gone (events_at (current p t r)) (stand_of t) r) (sym (next_shape p t r))
   where
-    by_row : (o : Option Row) → stand_of (row_done (events_at (current p t r)) r o t) ≡ gone (events_at (current p t r)) (stand_of t) r (shape_in_row o)
+    by_row : (o : Option Row) → stand_of (row_tables (events_at (current p t r)) r o t) ≡ gone (events_at (current p t r)) (stand_of t) r (shape_in_row o)
     by_row None = refl
     by_row (Some w) = event_done p t r (events_at (current p t r)) w
 

@@ -11,8 +11,8 @@ use Rattle.qm_ideal.specs.Meetings.{Stand, stand_of, Reader, may_go, go, shape_n
 use Rattle.qm_ideal.specs.MeetingRuns.{IsLowestMeeting, IsOnMeetingsWay, IsMeetingsEnd, stand_left}
 use Rattle.qm_ideal.proofs.MeetingLemmas.{able_same, left_same, next_same, same_reader, same_count}
 use Rattle.qm_ideal.proofs.MeetingWork.{IsNextRow, next_row, work_left_falls, events_few, one_meeting}
-use Rattle.qm_runs.proofs.Stuck.Rendezvous.{one_rank, small}
-use Rattle.qm_runs.proofs.Tables.Lines.{rows_count}
+use Rattle.qm_confluence.proofs.Stuck.Rendezvous.{one_rank, small}
+use Rattle.qm_proto.proofs.Lines.{rows_count}
 
 lowest_push : (p : Programs) (rs : List ℕ) (r : ℕ) (t : Tables) → IsLowestMeeting p t rs → IsLowestEnabled p (fold (next_tables p) t rs) r
     → IsLowestMeeting p t (rs ++ r ∷ [])

@@ -7,16 +7,16 @@ use Rattle.qm_instr.specs.Counts.{events_of}
 use Rattle.qm_instr.specs.Programs.{Programs, rank_of}
 use Rattle.qm_proto.specs.declared.Row.{Row}
 use Rattle.qm_proto.specs.Model.State.{Part, Tables}
-use Rattle.qm_proto.specs.Model.Acts.{all_done, list_of}
+use Rattle.qm_proto.specs.Model.Acts.{after_acts, list_of}
 use Rattle.qm_proto.specs.Model.Rows.{current, rows}
-use Rattle.qm_proto.specs.Model.Runs.{row_in, row_holds, moved_on, events_at, row_done, next_tables}
+use Rattle.qm_proto.specs.Model.Runs.{row_in, row_holds, part_after_event, events_at, row_tables, next_tables}
 use Rattle.qm_proto.specs.Model.Schedules.{IsMeetingFrom}
 use Rattle.qm_proto.proofs.Changes.{by_test, by_number, with_at-here, with_at-elsewhere}
 use Rattle.qm_proto.proofs.Firsts.{lowest_enabled_unique}
 use Rattle.qm_proto.proofs.Positions.{all_at_kept, all_stage_kept}
-use Rattle.qm_runs.proofs.Tables.Lines.{rows_count}
-use Rattle.qm_runs.proofs.Tables.Sums.{sum_below-lt}
-use Rattle.qm_runs.specs.Tables.Totals.{sum_below}
+use Rattle.qm_proto.proofs.Lines.{rows_count}
+use Rattle.qm_proto.proofs.Sums.{sum_below-lt}
+use Rattle.qm_proto.specs.Model.Totals.{sum_below}
 
 -- ---- the machine with letters left aside
 pub events_few : (i : Instr) → events_of i ≤ 5
@@ -40,7 +40,7 @@ next_row p t r (Some i) here (Some w) there e = record { instruction = i; row = 
 abbrev pub work : ℕ → Part → ℕ
 work long x = 5 * (long - x.at) - x.stage
 
-work_falls : (long n : ℕ) (x y : Part) → y.at ≡ x.at → y.stage ≡ x.stage → x.at < long → x.stage < 5 → work long (moved_on n y) < work long x
+work_falls : (long n : ℕ) (x y : Part) → y.at ≡ x.at → y.stage ≡ x.stage → x.at < long → x.stage < 5 → work long (part_after_event n y) < work long x
 work_falls long n x y at stage within early =
     by_test (λ z. work long z < work long x) (nat_lt (y.stage + 1) n) (record y { stage = y.stage + 1 }) (record y { at = y.at + 1; stage = 0 })
     (λ _. omega (arith, at, stage, within, early)) (λ _. omega (arith, at, stage, within, early))
@@ -50,17 +50,17 @@ module _ (p : Programs) where
   work_left t = sum_below (λ r. work (length (rank_of p r).instructions) (t.parts r)) (length p.ranks)
 
   module _ (t : Tables) (r : ℕ) (n : IsNextRow p t r) where
-    after_is : next_tables p t r ≡ row_done (events_of n.instruction) r (Some n.row) t
+    after_is : next_tables p t r ≡ row_tables (events_of n.instruction) r (Some n.row) t
     after_is =
-        ap (λ o. row_done (events_at o) r (row_in p t r o) t) n.here ∙ ap (λ w. row_done (events_of n.instruction) r w t) n.there
+        ap (λ o. row_tables (events_at o) r (row_in p t r o) t) n.here ∙ ap (λ w. row_tables (events_of n.instruction) r w t) n.there
 
     abbrev acted : Tables
-    acted = all_done r (list_of n.row.acts) t
+    acted = after_acts r (list_of n.row.acts) t
 
     here_falls : work (length (rank_of p r).instructions) ((next_tables p t r).parts r) < work (length (rank_of p r).instructions) (t.parts r)
     here_falls =
         let long = length (rank_of p r).instructions in
-        let moved : (next_tables p t r).parts r ≡ moved_on (events_of n.instruction) (acted.parts r) =
+        let moved : (next_tables p t r).parts r ≡ part_after_event (events_of n.instruction) (acted.parts r) =
         ap (λ (u : Tables). u.parts r) after_is ∙ with_at-here acted.parts r _ in
         let count = rows_count p t r n.instruction in
         let stage = slice_get_within (rows p t r n.instruction) (t.parts r).stage n.row n.there in

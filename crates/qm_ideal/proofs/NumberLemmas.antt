@@ -5,7 +5,7 @@ use Rattle.std.proofs.lemmas.Option.{slice_get_read}
 use Rattle.qm_instr.specs.Programs.{Programs}
 use Rattle.qm_proto.specs.Model.Ideal.{IdealTables, has_instr}
 use Rattle.qm_ideal.specs.declared.tables.Rank.{Rank}
-use Rattle.qm_bits.proofs.NumberLemmas.{digit_few}
+use Rattle.qm_instr.proofs.BitLemmas.{digit_few}
 use Rattle.qm_ideal.specs.OneCircuits.{left_from, no_rank}
 use Rattle.qm_ideal.specs.Views.{end_of, slot_in, bits_in}
 

@@ -6,13 +6,13 @@ use Rattle.qm_instr.specs.declared.Instr.TheVariants as instr
 use Rattle.qm_instr.specs.Programs.{Programs, rank_of}
 use Rattle.qm_proto.specs.Model.Ideal.{IdealPart, IdealTables, IdealState, IdealAct, ideal_enabled, ideal_next, ideal_at_start, ideal_replay, IsLowestIdeal, IsIdealFrom, IsOneFrom, IsOneRun}
 use Rattle.qm_proto.proofs.Changes.{by_number}
-use Rattle.qm_runs.proofs.Confluence.Effects.{part_act, part_stepped, part_elsewhere}
-use Rattle.qm_runs.proofs.Confluence.ByView.{View, acts_by, view}
-use Rattle.qm_runs.proofs.Confluence.Helpers.{IsNext, next_where_able}
-use Rattle.qm_runs.proofs.Confluence.WellIdeal.{at_same}
-use Rattle.qm_runs.proofs.Confluence.Diamond.{next_is}
+use Rattle.qm_confluence.proofs.Confluence.Effects.{part_act, part_stepped, part_elsewhere}
+use Rattle.qm_confluence.proofs.Confluence.ByView.{View, acts_by, view}
+use Rattle.qm_confluence.proofs.Confluence.Helpers.{IsNextInstr, next_where_able}
+use Rattle.qm_confluence.proofs.Confluence.WellIdeal.{at_same}
+use Rattle.qm_confluence.proofs.Confluence.Diamond.{next_is}
 use Rattle.qm_ideal.specs.OneRuns.{IsLowestFrom, IsOnTheWay, IsItsEnd, instructions_left}
-use Rattle.qm_runs.proofs.Tables.Sums.{sum_below-lt}
+use Rattle.qm_proto.proofs.Sums.{sum_below-lt}
 
 module _ (p : Programs) where
   -- ---- one rank more
@@ -57,7 +57,7 @@ module _ (p : Programs) where
   ideal_from_lowest (r ∷ rs) s run = (run.0.known, run.0.able, ideal_from_lowest rs (ideal_next p s r) run.1)
 
   -- ---- a step of a rank that is enabled
-  module _ (s : IdealState) (r : ℕ) (i : Instr) (next : IsNext p s.tables r i) where
+  module _ (s : IdealState) (r : ℕ) (i : Instr) (next : IsNextInstr p s.tables r i) where
     acts : List IdealAct
     acts = acts_by r i (view p s.tables r i)
 
@@ -96,7 +96,7 @@ module _ (p : Programs) where
   abbrev pub CountsFew : IdealTables → Type 0
   CountsFew t = (r : ℕ) → (t.parts r).made ≤ (t.parts r).at
 
-  few_next : (s : IdealState) (r : ℕ) (i : Instr) → IsNext p s.tables r i → CountsFew s.tables → CountsFew (ideal_next p s r).tables
+  few_next : (s : IdealState) (r : ℕ) (i : Instr) → IsNextInstr p s.tables r i → CountsFew s.tables → CountsFew (ideal_next p s r).tables
   unfolding acts
   few_next s r i next few =
       by_number (λ k. ((ideal_next p s r).tables.parts k).made ≤ ((ideal_next p s r).tables.parts k).at) r

@@ -8,13 +8,13 @@ use Rattle.qm_instr.specs.declared.Instr.{Instr}
 use Rattle.qm_instr.specs.declared.Instr.TheVariants as instr
 use Rattle.qm_instr.specs.Programs.{Programs, IsInRange, rank_of, idle_rank, instruction_total}
 use Rattle.qm_proto.specs.Model.Ideal.{IdealState, ideal_next, ideal_at_start, ideal_replay, IsOneFrom, IsOneRun}
-use Rattle.qm_runs.proofs.Confluence.ByView.{View, letters_by, view, bit_in}
-use Rattle.qm_runs.proofs.Confluence.Helpers.{next_where_able}
-use Rattle.qm_runs.proofs.Confluence.Diamond.{next_is}
+use Rattle.qm_confluence.proofs.Confluence.ByView.{View, letters_by, view, bit_in}
+use Rattle.qm_confluence.proofs.Confluence.Helpers.{next_where_able}
+use Rattle.qm_confluence.proofs.Confluence.Diamond.{next_is}
 use Rattle.qm_ideal.specs.OneRuns.{IsItsEnd, instructions_left}
 use Rattle.qm_ideal.proofs.OneRunLemmas.{left_falls}
 use Rattle.qm_ideal.specs.OneCircuits.{most_letters}
-use Rattle.qm_runs.specs.Tables.Totals.{sum_below}
+use Rattle.qm_proto.specs.Model.Totals.{sum_below}
 
 if_few : (b : Bool) (l : Letter) → length (letter_if b l) ≤ 2
 if_few true l = omega arith

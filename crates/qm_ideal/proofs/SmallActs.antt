@@ -8,8 +8,8 @@ use Rattle.qm_instr.specs.declared.Instr.TheVariants as instr
 use Rattle.qm_instr.specs.Operands.{HasOperands}
 use Rattle.qm_instr.specs.Programs.{Programs, rank_of, idle_rank, IsInRange, instruction_total}
 use Rattle.qm_instr.proofs.Ranges.{rank_of-in_range}
-use Rattle.qm_proto.specs.Model.Ideal.{IdealTables, IdealState, step_of, ideal_current, IsLowestIdeal}
-use Rattle.qm_runs.proofs.Confluence.Helpers.{next_where_able}
+use Rattle.qm_proto.specs.Model.Ideal.{IdealTables, IdealState, ideal_row_of, ideal_current, IsLowestIdeal}
+use Rattle.qm_confluence.proofs.Confluence.Helpers.{next_where_able}
 use Rattle.qm_ideal.specs.Meanings.{AllSmall}
 use Rattle.qm_ideal.specs.OneRuns.{IsOnTheWay}
 use Rattle.qm_ideal.proofs.OneRunLemmas.{few_on_the_way}
@@ -18,7 +18,7 @@ first : (n m q : ℕ) (qs : List ℕ) → n ≤ m → All (λ s. s < n) (q ∷ q
 first n m q qs few h = let below : q < n = All-head (λ s. s < n) q qs h in omega (arith, below, few)
 
 module _ (p : Programs) (t : IdealTables) (r n : ℕ) (few : n ≤ 16) where
-  small_acts : (i : Instr) → HasOperands n i → AllSmall (step_of p t r i).acts
+  small_acts : (i : Instr) → HasOperands n i → AllSmall (ideal_row_of p t r i).acts
   small_acts (instr.Alloc q) h = (tt, (first n 16 q [] few h.slots, tt))
   small_acts (instr.Free q) h = (first n 16 q [] few h.slots, tt)
   small_acts (instr.Do g) h = tt
@@ -38,7 +38,7 @@ module _ (p : Programs) (t : IdealTables) (r n : ℕ) (few : n ≤ 16) where
   small_acts (instr.ReachFrom q from tag) h = (tt, tt)
 
 module _ (p : Programs) (ranges : IsInRange p) (s : IdealState) (r : ℕ) (known : r < length p.ranks) where
-  pub small_step : (i : Instr) → ideal_current p s.tables r ≡ Some i → AllSmall (step_of p s.tables r i).acts
+  pub small_step : (i : Instr) → ideal_current p s.tables r ≡ Some i → AllSmall (ideal_row_of p s.tables r i).acts
   small_step i read =
       let x = rank_of p r in
       let k = (s.tables.parts r).at in

@@ -5,7 +5,7 @@ use Rattle.qm_proto.specs.Model.Runs.{next_tables}
 use Rattle.qm_proto.specs.Model.Schedules.{tables_at_start, with_buffers_of_one, IsLowestEnabled, IsMeetingFrom}
 use Rattle.qm_proto.specs.Model.State.{Tables}
 use Rattle.qm_ideal.specs.Meetings.{Stand, stand_of}
-use Rattle.qm_runs.specs.Tables.Totals.{sum_below}
+use Rattle.qm_proto.specs.Model.Totals.{sum_below}
 
 -- each rank is the lowest that is enabled after those before it
 abbrev pub IsLowestMeeting : Programs → Tables → List ℕ → Type 0

@@ -6,7 +6,7 @@ use Rattle.qm_ideal.specs.declared.lines.Move.TheVariants as variant
 use Rattle.qm_ideal.specs.declared.meeting.Meeting.{Meeting}
 use Rattle.qm_ideal.specs.declared.meeting.Place.{Place}
 use Rattle.qm_ideal.specs.Lanes.{lanes_of}
-use Rattle.qm_runs.specs.Stuck.Shapes.{Move, Puts, Tells, Gets, Shape, shape}
+use Rattle.qm_confluence.specs.Stuck.Shapes.{Move, Puts, Tells, Gets, Shape, shape}
 use Rattle.qm_ideal.specs.Meetings.{Stand}
 
 -- what an event does to a lane

@@ -7,7 +7,7 @@ use Rattle.qm_proto.specs.declared.Rule.{Rule}
 use Rattle.qm_proto.specs.declared.Rule.TheVariants.{Always, PairRoom, Engaged, Filled}
 use Rattle.qm_proto.specs.Model.Runs.{receives_on, events_at}
 use Rattle.qm_proto.specs.Model.State.{Tables, with_at, with_lane}
-use Rattle.qm_runs.specs.Stuck.Shapes.{Move, Puts, Tells, Gets, Shape, shapes}
+use Rattle.qm_confluence.specs.Stuck.Shapes.{Move, Puts, Tells, Gets, Shape, shapes}
 
 -- where the ranks stand, and the lanes
 pub record Stand : Type 0 where

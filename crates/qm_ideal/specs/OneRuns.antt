@@ -2,7 +2,7 @@
 use Rattle.std.specs.Prelude.{◌≡◌, ℕ, ◌-◌, List, [], ◌∷◌, fold, length}
 use Rattle.qm_instr.specs.Programs.{Programs, rank_of}
 use Rattle.qm_proto.specs.Model.Ideal.{IdealTables, IdealState, ideal_next, ideal_at_start, ideal_replay, IsLowestIdeal, IsOneRun}
-use Rattle.qm_runs.specs.Tables.Totals.{sum_below}
+use Rattle.qm_proto.specs.Model.Totals.{sum_below}
 
 -- each rank is the lowest that is enabled after those before it
 abbrev pub IsLowestFrom : Programs → IdealState → List ℕ → Type 0

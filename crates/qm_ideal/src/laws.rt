@@ -1,7 +1,7 @@
 //! The laws of the one circuit: the order in which ranks step in an ideal run, and the width.
 
 ghost use Rattle.qm_ideal.specs.Room.{WidthLaw};
-ghost use Rattle.qm_runs.specs.Confluence.{ConfluenceLaw};
+ghost use Rattle.qm_confluence.specs.Confluence.{ConfluenceLaw};
 
 /// In programs without a fault, two ranks that are both enabled after an ideal run may step in either order, to equal amplitudes, equal
 /// halvings and otherwise equal states. Where an ideal run leaves no instruction, the run that steps the lowest enabled rank leaves

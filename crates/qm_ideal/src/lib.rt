@@ -12,8 +12,6 @@ mod one_circuit;
 mod run;
 mod steps;
 mod tables;
-#[cfg(test)]
-mod tests;
 mod width;
 
 pub use meeting::rendezvous;

@@ -1,7 +1,7 @@
 //! What each event of an instruction waits for, and what it does to lanes.
 ghost use Rattle.std.specs.Prelude.{◌≡◌, true, false, [], ◌∷◌, map, take, slice_get};
 ghost use Rattle.qm_instr.specs.Lanes.{lane};
-ghost use Rattle.qm_runs.specs.Stuck.Shapes.{shapes};
+ghost use Rattle.qm_confluence.specs.Stuck.Shapes.{shapes};
 ghost use Rattle.qm_ideal.specs.MeetingViews.{line_meant, line_in};
 
 use qm_instr::{Instr, Kind, Lane};

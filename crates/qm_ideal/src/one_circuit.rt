@@ -1,6 +1,6 @@
 //! The one circuit of programs.
 ghost use Rattle.std.specs.Prelude.{◌≡◌, ◌<◌, ◌≤◌, ◌++◌, length, IfOk, IfErr, OnOk};
-ghost use Rattle.qm_bits.specs.Numbers.{number_of_bits};
+ghost use Rattle.qm_instr.specs.Bits.{number_of_bits};
 ghost use Rattle.qm_ideal.specs.OneCircuits.{wires_below, wires_in, left_from, bits_of, slot_of, most_letters, IsOneCircuit, Explains};
 ghost use Rattle.qm_ideal.specs.Views.{tables_of, slots_at, view_of_run};
 

@@ -3,7 +3,7 @@ ghost use Rattle.std.specs.Prelude.{◌≡◌, ◌<◌, ◌+◌, ◌^◌, ◌++�
 ghost use Rattle.qm_denot.specs.declared.Letter.{Letter};
 ghost use Rattle.qm_instr.specs.declared.Instr.{Instr};
 ghost use Rattle.qm_proto.specs.Model.Acts.{list_of};
-ghost use Rattle.qm_proto.specs.Model.Ideal.{step_of, ideal_holds, may_do, ideal_enabled, ideal_current, ideal_next, IsLowestIdeal};
+ghost use Rattle.qm_proto.specs.Model.Ideal.{ideal_row_of, ideal_holds, instr_enabled, ideal_enabled, ideal_current, ideal_next, IsLowestIdeal};
 ghost use Rattle.qm_proto.specs.Model.Runs.{receives_on};
 ghost use Rattle.qm_proto.specs.Model.Ideal.{sends_on};
 ghost use Rattle.qm_ideal.specs.Meanings.{rule_meant, AllSmall};
@@ -118,7 +118,7 @@ impl Run {
         requires at { ((state_of input.now self.old).tables.parts rank).at + 1 < 2 ^ 32 }
         requires small { (i : Instr)
             → ideal_current input.now (state_of input.now self.old).tables rank ≡ Some i
-            → AllSmall (step_of input.now (state_of input.now self.old).tables rank i).acts }
+            → AllSmall (ideal_row_of input.now (state_of input.now self.old).tables rank i).acts }
         ensures did { OnOk result (state_of input.now self.new
             ≡ ideal_next input.now (state_of input.now self.old) rank) }
         ensures ranks { OnOk result (length self.new.tables.ranks.items

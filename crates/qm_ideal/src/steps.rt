@@ -3,7 +3,7 @@ ghost use Rattle.std.specs.Prelude.{◌≡◌, ◌<◌, length, map, Some, None,
 ghost use Rattle.qm_instr.specs.Lanes.{lane};
 ghost use Rattle.qm_instr.specs.Programs.{Programs};
 ghost use Rattle.qm_proto.specs.Model.Acts.{list_of};
-ghost use Rattle.qm_proto.specs.Model.Ideal.{IdealTables, step_of, ideal_wire_in, load_at, wire_carried};
+ghost use Rattle.qm_proto.specs.Model.Ideal.{IdealTables, ideal_row_of, ideal_wire_in, load_at, wire_carried};
 ghost use Rattle.qm_proto.specs.Model.Rows.{one_letter, gate_letter};
 ghost use Rattle.qm_ideal.specs.Meanings.{rule_meant, act_meant, is_message};
 ghost use Rattle.qm_ideal.specs.Views.{tables_of};
@@ -75,7 +75,7 @@ fn lane(from: u16, to: u16, kind: Kind, tag: u16) -> Lane
 
 /// What the step of an instruction of a rank waits for.
 pub(crate) fn rule_of(rank: u16, instr: Instr) -> Rule
-    ensures { (p : Programs) (t : IdealTables) → (step_of p t rank instr).rule ≡ rule_meant result }
+    ensures { (p : Programs) (t : IdealTables) → (ideal_row_of p t rank instr).rule ≡ rule_meant result }
 {
     match instr {
         Instr::RecvBit { from, tag, .. } => Rule::Filled {
@@ -174,10 +174,10 @@ fn local_step(input: &Input, tables: &Tables, rank: u16, instr: Instr) -> Step
     requires known { rank < length input.now.ranks }
     ensures letters { is_message instr ≡ false
         → list_of result.letters
-        ≡ (step_of input.now (tables_of input.now tables.now) rank instr).letters }
+        ≡ (ideal_row_of input.now (tables_of input.now tables.now) rank instr).letters }
     ensures acts { is_message instr ≡ false
         → map act_meant (list_of result.acts)
-        ≡ (step_of input.now (tables_of input.now tables.now) rank instr).acts }
+        ≡ (ideal_row_of input.now (tables_of input.now tables.now) rank instr).acts }
 {
     match instr {
         Instr::Alloc { q } => {
@@ -220,10 +220,10 @@ fn message_step(input: &Input, tables: &Tables, rank: u16, instr: Instr) -> Step
     requires known { rank < length input.now.ranks }
     ensures letters { is_message instr ≡ true
         → list_of result.letters
-        ≡ (step_of input.now (tables_of input.now tables.now) rank instr).letters }
+        ≡ (ideal_row_of input.now (tables_of input.now tables.now) rank instr).letters }
     ensures acts { is_message instr ≡ true
         → map act_meant (list_of result.acts)
-        ≡ (step_of input.now (tables_of input.now tables.now) rank instr).acts }
+        ≡ (ideal_row_of input.now (tables_of input.now tables.now) rank instr).acts }
 {
     match instr {
         Instr::SendBit { b, to, tag } => {
@@ -315,9 +315,9 @@ pub(crate) fn step_of(input: &Input, tables: &Tables, rank: u16, instr: Instr) -
     requires same { length tables.now.ranks.items ≡ length input.now.ranks }
     requires known { rank < length input.now.ranks }
     ensures letters { list_of result.letters
-        ≡ (step_of input.now (tables_of input.now tables.now) rank instr).letters }
+        ≡ (ideal_row_of input.now (tables_of input.now tables.now) rank instr).letters }
     ensures acts { map act_meant (list_of result.acts)
-        ≡ (step_of input.now (tables_of input.now tables.now) rank instr).acts }
+        ≡ (ideal_row_of input.now (tables_of input.now tables.now) rank instr).acts }
 {
     if is_message(instr) {
         message_step(input, tables, rank, instr)

@@ -1,9 +1,9 @@
 //! Where each rank stands, the wires in its slots, and what the lanes hold.
 ghost use Rattle.std.specs.Prelude.{◌≡◌, ◌<◌, ◌+◌, ◌^◌, ℕ, length, map, unwrap_or, slice_get, slice_index_or, nat_eq, false, None, drop, fold, IfOk, OnOk};
-ghost use Rattle.qm_bits.specs.Numbers.{number_of_bits};
+ghost use Rattle.qm_instr.specs.Bits.{number_of_bits};
 ghost use Rattle.qm_proto.specs.Model.State.{no_wire};
 ghost use Rattle.qm_proto.specs.Model.Acts.{list_of};
-ghost use Rattle.qm_proto.specs.Model.Ideal.{ideal_wire_in, ideal_made, ideal_current, ideal_offered, ideal_done, ideal_moved_on, Counts, SlotSet, Puts, Takes, OwnUsed, BitSet, load_at, wire_carried, bit_told, is_empty_lane, ideal_at_start};
+ghost use Rattle.qm_proto.specs.Model.Ideal.{ideal_wire_in, ideal_wire_made, ideal_current, ideal_wire_offered, ideal_after_act, ideal_past_instr, Counts, SlotSet, Puts, Takes, OwnUsed, BitSet, load_at, wire_carried, bit_told, is_empty_lane, ideal_at_start};
 ghost use Rattle.qm_ideal.specs.Meanings.{act_meant, load_meant, load_in, IsSmall, AllSmall};
 ghost use Rattle.qm_ideal.specs.Lanes.{lanes_of};
 ghost use Rattle.qm_ideal.specs.OneCircuits.{no_rank};
@@ -11,8 +11,8 @@ ghost use Rattle.qm_ideal.specs.Views.{tables_of, slots_at, ends_of};
 
 use crate::lanes::Lanes;
 use crate::steps::{Act, Load};
-use qm_bits::{BITS, number_of_bits};
 use qm_denot::Wire;
+use qm_instr::bits::{BITS, number_of_bits};
 use qm_instr::{Input, Instr, Lane};
 use qm_proto::Few;
 use std::alloc::{AllocError, Global};
@@ -166,7 +166,7 @@ impl Tables {
     /// The wire that a rank's count names.
     pub(crate) fn made(&self, input: &Input, rank: u16) -> Wire
         requires { rank < length self.now.ranks.items }
-        ensures { result ≡ ideal_made (tables_of input.now self.now) rank }
+        ensures { result ≡ ideal_wire_made (tables_of input.now self.now) rank }
     {
         Wire {
             rank,
@@ -210,7 +210,7 @@ impl Tables {
     /// The wire that a rank offers, which stands at an `undofrom` or a `reachto`.
     pub(crate) fn offered(&self, input: &Input, rank: u16) -> Wire
         requires { length self.now.ranks.items ≡ length input.now.ranks }
-        ensures { result ≡ ideal_offered input.now (tables_of input.now self.now) rank }
+        ensures { result ≡ ideal_wire_offered input.now (tables_of input.now self.now) rank }
     {
         match self.current(input, rank) {
             Some(Instr::UndoFrom { q, .. }) | Some(Instr::ReachTo { q, .. }) => self.wire_in(
@@ -225,7 +225,7 @@ impl Tables {
         requires known { rank < length self.old.ranks.items }
         requires few { ((tables_of input.now self.old).parts rank).made + 1 < 2 ^ 32 }
         ensures did { tables_of input.now self.new
-            ≡ ideal_done rank (tables_of input.now self.old) Counts }
+            ≡ ideal_after_act rank (tables_of input.now self.old) Counts }
         ensures ranks { length self.new.ranks.items ≡ length self.old.ranks.items }
     {
         let place = &mut self.ranks[usize::from(rank)];
@@ -237,7 +237,7 @@ impl Tables {
         requires known { rank < length self.old.ranks.items }
         requires slot { q < SLOTS }
         ensures did { tables_of input.now self.new
-            ≡ ideal_done rank (tables_of input.now self.old) (SlotSet q wire) }
+            ≡ ideal_after_act rank (tables_of input.now self.old) (SlotSet q wire) }
         ensures ranks { length self.new.ranks.items ≡ length self.old.ranks.items }
     {
         let place = &mut self.ranks[usize::from(rank)];
@@ -249,7 +249,7 @@ impl Tables {
         requires same { length self.old.ranks.items ≡ length input.now.ranks }
         requires known { rank < length input.now.ranks }
         ensures did { tables_of input.now self.new
-            ≡ ideal_done rank (tables_of input.now self.old) OwnUsed }
+            ≡ ideal_after_act rank (tables_of input.now self.old) OwnUsed }
         ensures ranks { length self.new.ranks.items ≡ length self.old.ranks.items }
     {
         let own = input.own(rank);
@@ -262,7 +262,7 @@ impl Tables {
         requires known { rank < length self.old.ranks.items }
         requires bit { b < BITS }
         ensures did { tables_of input.now self.new
-            ≡ ideal_done rank (tables_of input.now self.old) (BitSet b v) }
+            ≡ ideal_after_act rank (tables_of input.now self.old) (BitSet b v) }
         ensures ranks { length self.new.ranks.items ≡ length self.old.ranks.items }
     {
         let place = &mut self.ranks[usize::from(rank)];
@@ -279,7 +279,7 @@ impl Tables {
         load: Load,
     ) -> Result<(), AllocError>
         ensures did { OnOk result (tables_of input.now self.new
-            ≡ ideal_done rank (tables_of input.now self.old) (Puts lane (load_meant load))) }
+            ≡ ideal_after_act rank (tables_of input.now self.old) (Puts lane (load_meant load))) }
         ensures ranks { length self.new.ranks.items ≡ length self.old.ranks.items }
     {
         self.lanes.put(alloc, lane, load)?;
@@ -289,7 +289,7 @@ impl Tables {
     /// Takes a lane's front away.
     fn take(&mut self, input: &Input, rank: u16, lane: Lane)
         ensures did { tables_of input.now self.new
-            ≡ ideal_done rank (tables_of input.now self.old) (Takes lane) }
+            ≡ ideal_after_act rank (tables_of input.now self.old) (Takes lane) }
         ensures ranks { length self.new.ranks.items ≡ length self.old.ranks.items }
     {
         self.lanes.take(lane);
@@ -300,7 +300,7 @@ impl Tables {
         requires known { rank < length self.old.ranks.items }
         requires few { ((tables_of input.now self.old).parts rank).at + 1 < 2 ^ 32 }
         ensures did { tables_of input.now self.new
-            ≡ ideal_moved_on (tables_of input.now self.old) rank }
+            ≡ ideal_past_instr (tables_of input.now self.old) rank }
         ensures ranks { length self.new.ranks.items ≡ length self.old.ranks.items }
     {
         let place = &mut self.ranks[usize::from(rank)];
@@ -320,7 +320,7 @@ impl Tables {
         requires few { ((tables_of input.now self.old).parts rank).made + 1 < 2 ^ 32 }
         requires small { IsSmall (act_meant act) }
         ensures did { OnOk result (tables_of input.now self.new
-            ≡ ideal_done rank (tables_of input.now self.old) (act_meant act)) }
+            ≡ ideal_after_act rank (tables_of input.now self.old) (act_meant act)) }
         ensures ranks { OnOk result (length self.new.ranks.items ≡ length self.old.ranks.items) }
     {
         match act {
@@ -347,7 +347,7 @@ impl Tables {
         requires few { ((tables_of input.now self.old).parts rank).made + 3 < 2 ^ 32 }
         requires small { AllSmall (map act_meant (list_of acts)) }
         ensures did { OnOk result (tables_of input.now self.new
-            ≡ fold (ideal_done rank) (tables_of input.now self.old)
+            ≡ fold (ideal_after_act rank) (tables_of input.now self.old)
             (map act_meant (list_of acts))) }
         ensures ranks { OnOk result (length self.new.ranks.items ≡ length self.old.ranks.items) }
     {

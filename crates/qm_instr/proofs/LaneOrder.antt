@@ -15,7 +15,8 @@ use Rattle.qm_instr.specs.contracts.LaneOrd.TheImpl as lane_ord
 use Rattle.qm_instr.specs.Lanes.{kind_place, is_lane, lane_order}
 
 -- what holds of each kind
-by_kind : (P : Kind → Type 0) → P kind.Bit → P kind.Copy → P kind.Move → P kind.Undo → P kind.Reach → P kind.Back → (k : Kind) → P k
+by_kind : (P : Kind → Type 0) → P kind.Bit → P kind.Copy → P kind.Move → P kind.Undo
+    → P kind.Reach → P kind.Back → (k : Kind) → P k
 by_kind P bit copy move undo reach back kind.Bit = bit
 by_kind P bit copy move undo reach back kind.Copy = copy
 by_kind P bit copy move undo reach back kind.Move = move
@@ -49,12 +50,14 @@ lane_order-total =
     then_total (on_total (λ (a : Lane). a.from) nat_cmp_total) (then_total (on_total (λ (a : Lane). a.to) nat_cmp_total) (then_total (on_total (λ (a : Lane). kind_place a.kind) nat_cmp_total) (on_total (λ (a : Lane). a.tag) nat_cmp_total)))
 
 -- numbers in an order that is equal, and what comes after them
-equal_parts : (x y : ℕ) (c o : Ordering) → MatchOrdering c (x < y) (x ≡ y) (y < x) → ordering_then c o ≡ Equal → (x ≡ y) × (o ≡ Equal)
+equal_parts : (x y : ℕ) (c o : Ordering) → MatchOrdering c (x < y) (x ≡ y) (y < x)
+    → ordering_then c o ≡ Equal → (x ≡ y) × (o ≡ Equal)
 equal_parts x y Less o h e = cc
 equal_parts x y Equal o h e = (h, e)
 equal_parts x y Greater o h e = cc
 
-equal_numbers : (x y : ℕ) (o : Ordering) → ordering_then (nat_cmp x y) o ≡ Equal → (x ≡ y) × (o ≡ Equal)
+equal_numbers : (x y : ℕ) (o : Ordering) → ordering_then (nat_cmp x y) o ≡ Equal
+    → (x ≡ y) × (o ≡ Equal)
 equal_numbers x y o e = equal_parts x y (nat_cmp x y) o (ranked x y (nat_cmp x y) refl) e
 
 equal_last : (x y : ℕ) (c : Ordering) → MatchOrdering c (x < y) (x ≡ y) (y < x) → c ≡ Equal → x ≡ y
@@ -110,13 +113,14 @@ is_lane-order a b =
     ∙ ap (λ o. nat_eq a.from b.from && (nat_eq a.to b.to && (o && is_eq (nat_cmp a.tag b.tag)))) (equal_numbers_test (kind_place a.kind) (kind_place b.kind))
     ∙ ap (λ o. nat_eq a.from b.from && (nat_eq a.to b.to && (nat_eq (kind_place a.kind) (kind_place b.kind) && o))) (equal_numbers_test a.tag b.tag))
 
+-- an order that is equal
+pub equal_from_test : (o : Ordering) → is_eq o ≡ true → o ≡ Equal
+equal_from_test Less e = cc
+equal_from_test Equal e = refl
+equal_from_test Greater e = cc
+
 pub same_lane : (a b : Lane) → is_lane a b ≡ true → a ≡ b
-same_lane a b e = lane_order-equal a b (by_order (lane_order a b) (sym (is_lane-order a b) ∙ e))
-  where
-    by_order : (o : Ordering) → is_eq o ≡ true → o ≡ Equal
-    by_order Less e = cc
-    by_order Equal e = refl
-    by_order Greater e = cc
+same_lane a b e = lane_order-equal a b (equal_from_test (lane_order a b) (sym (is_lane-order a b) ∙ e))
 
 pub lane_itself : (a : Lane) → is_lane a a ≡ true
 lane_itself a = is_lane-order a a ∙ ap is_eq (tied_itself lane_order-total a)
@@ -124,7 +128,10 @@ lane_itself a = is_lane-order a a ∙ ap is_eq (tied_itself lane_order-total a)
 -- it doesn't matter which of two lanes is named first
 pub lane_turned : (a b : Lane) → is_lane a b ≡ is_lane b a
 lane_turned a b =
-    is_lane-order a b ∙ ap is_eq (lane_order-total.antisymm a b) ∙ reversed (lane_order b a) ∙ sym (is_lane-order b a)
+    is_lane-order a b
+    ∙ ap is_eq (lane_order-total.antisymm a b)
+    ∙ reversed (lane_order b a)
+    ∙ sym (is_lane-order b a)
   where
     reversed : (o : Ordering) → is_eq (ordering_reverse o) ≡ is_eq o
     reversed Less = refl

@@ -1,6 +1,7 @@
 //! Instructions of the ranks, the lanes of their messages, and the programs of all ranks.
 #![tactic(auto)]
 
+pub mod bits;
 mod counts;
 mod messages;
 mod programs;
@@ -9,9 +10,6 @@ mod ranks;
 pub use counts::{event_count, own_count, protocol_count};
 pub use messages::{receive_lane, send_lane};
 pub use programs::Input;
-
-#[cfg(test)]
-mod tests;
 
 /// A gate on one qubit.
 #[derive(Clone, Copy, PartialEq, Eq, Debug)]
@@ -100,4 +98,21 @@ pub struct Lane {
     pub to: u16,
     pub kind: Kind,
     pub tag: u16,
+}
+
+impl Lane {
+    ghost use Rattle.std.specs.Prelude.{◌≡◌};
+    ghost use Rattle.qm_instr.specs.Lanes.{lane};
+
+    /// The lane of these messages.
+    pub fn new(from: u16, to: u16, kind: Kind, tag: u16) -> Lane
+        ensures { result ≡ lane from to kind tag }
+    {
+        Lane {
+            from,
+            to,
+            kind,
+            tag,
+        }
+    }
 }

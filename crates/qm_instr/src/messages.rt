@@ -18,12 +18,7 @@ pub fn send_lane(rank: u16, i: Instr) -> Option<Lane>
         Instr::ReachTo { to, tag, .. } => (to, Kind::Reach, tag),
         _ => return None,
     };
-    Some(Lane {
-        from: rank,
-        to,
-        kind,
-        tag,
-    })
+    Some(Lane::new(rank, to, kind, tag))
 }
 
 /// The lane on which an instruction of a rank is a receive. `None` exactly where it receives nothing.
@@ -40,10 +35,5 @@ pub fn receive_lane(rank: u16, i: Instr) -> Option<Lane>
         Instr::ReachFrom { from, tag, .. } => (from, Kind::Reach, tag),
         _ => return None,
     };
-    Some(Lane {
-        from,
-        to: rank,
-        kind,
-        tag,
-    })
+    Some(Lane::new(from, rank, kind, tag))
 }

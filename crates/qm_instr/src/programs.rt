@@ -4,7 +4,7 @@ ghost use Rattle.qm_instr.specs.Operands.{HasOperands};
 ghost use Rattle.qm_instr.specs.Programs.{IsInRange, idle, rank_of, with_sizes, with_instruction, with_own, with_protocol, instruction_total};
 
 use crate::Instr;
-use crate::ranks::Rank;
+use crate::ranks::Program;
 use qm_limits::{MOST_HALVES, MOST_INSTRUCTIONS, MOST_OUTCOMES, MOST_RANKS, SLOTS};
 use std::alloc::{AllocError, Global};
 use std::marker::Model;
@@ -17,7 +17,7 @@ use std::marker::Model;
 #[derive(Drop)]
 pub struct Input {
     version: u8,
-    ranks: Vec<Rank>,
+    ranks: Vec<Program>,
 }
 
 impl Model for Input {
@@ -43,7 +43,7 @@ impl Input {
     {
         let mut all = Vec::new(alloc);
         for _ in 0..ranks {
-            all.push(Rank::idle(alloc))?;
+            all.push(Program::idle(alloc))?;
         }
         Ok(Input {
             version,

@@ -8,7 +8,7 @@ use std::marker::Model;
 
 /// One rank: its sizes, its instructions, and its two tapes of outcomes.
 #[derive(Drop)]
-pub(crate) struct Rank {
+pub(crate) struct Program {
     pub(crate) qubits: u8,
     pub(crate) buffer: u8,
     pub(crate) instructions: Vec<Instr>,
@@ -16,7 +16,7 @@ pub(crate) struct Rank {
     pub(crate) protocol: Vec<bool>,
 }
 
-impl Model for Rank {
+impl Model for Program {
     ghost use Rattle.qm_instr.specs.Programs.{RankProgram};
 
     ghost Value = { RankProgram };
@@ -30,12 +30,12 @@ impl Model for Rank {
     } };
 }
 
-impl Rank {
+impl Program {
     /// A rank that does nothing, with one slot and a buffer of one.
-    pub(crate) fn idle(alloc: Global) -> Rank
+    pub(crate) fn idle(alloc: Global) -> Program
         ensures { result ≡ idle_rank }
     {
-        Rank {
+        Program {
             qubits: 1,
             buffer: 1,
             instructions: Vec::new(alloc),

@@ -22,13 +22,13 @@ pub enum TextError {
 /// All bytes that the source has left, at most [`MOST_BYTES`].
 /// `ReadFault` comes where a read failed, and `TooLong` where more bytes came and no read failed.
 /// `Memory` comes from the allocator alone.
-/// Each read but the last gives at least one byte, so there are at most [`MOST_BYTES`] + 1 reads.
+/// Each read but the last gives at least one byte, so there are at most [`MOST_BYTES`] + 1 of them.
 pub fn read_all<I: Source>(alloc: Global, source: &mut I) -> Result<Vec<u8>, TextError>
     ensures { Takes (I.seen source.old) (I.seen source.new) result }
 {
     let mut text = Vec::new(alloc);
     let mut piece = [0; PIECE];
-    loop {
+    for _ in 0..=MOST_BYTES {
         let Ok(n) = source.read(&mut piece) else {
             return Err(TextError::ReadFault);
         };
@@ -41,4 +41,5 @@ pub fn read_all<I: Source>(alloc: Global, source: &mut I) -> Result<Vec<u8>, Tex
         text.extend_from_slice(&piece[..n])
             .map_err(|_| TextError::Memory)?;
     }
+    unreachable!()
 }

@@ -12,8 +12,6 @@ pub mod numbers;
 pub mod sizes;
 mod small;
 mod steps;
-#[cfg(test)]
-mod tests;
 
 pub use exact::{
     cross, fits, flip, gather, had, had_fits, hadamard, keep, pair_up, phase, sign, squeeze,

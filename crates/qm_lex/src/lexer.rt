@@ -1,5 +1,6 @@
 //! Lexing: a text is read piece by piece.
 ghost use Rattle.std.specs.Prelude.{◌≡◌, ◌<◌, ◌≤◌, length, IfOk};
+ghost use Rattle.qm_lex.specs.declared.lexer.LexError.TheVariants.{Memory};
 ghost use Rattle.qm_lex.specs.Lexing.{line_after, Lexes, token_list};
 ghost use Rattle.qm_lex.specs.Pieces.{IsPiece, HasBytes};
 ghost use Rattle.qm_lex.specs.Spans.{LieIn};
@@ -7,7 +8,7 @@ ghost use Rattle.qm_lex.specs.Spans.{LieIn};
 use crate::bytes::{comment_len, is_blank, is_digit, is_letter, is_symbol, number_len, word_len};
 use crate::tokens::{Token, TokenKind, Tokens};
 use qm_limits::MOST_BYTES;
-use std::alloc::Global;
+use std::alloc::{AllocFailed, Global};
 use thiserror::Error;
 
 /// Why a text has no tokens.
@@ -21,8 +22,16 @@ pub enum LexError {
     Memory,
 }
 
+impl<T: Drop> From<AllocFailed<T>> for LexError {
+    ghost from_gives = { λ _ e. e ≡ Memory };
+
+    fn from(_error: AllocFailed<T>) -> LexError {
+        LexError::Memory
+    }
+}
+
 /// What stands at the front of a text. A text is read piece by piece, and each piece has at least one byte.
-#[derive(Clone, Copy, Debug, PartialEq, Eq)]
+#[derive(Clone, Copy)]
 pub enum Piece {
     /// A blank, or a comment up to its line feed, of so many bytes: no token.
     Gap(usize),
@@ -87,9 +96,7 @@ pub fn lex(alloc: Global, text: &[u8]) -> Result<Tokens, LexError>
                     stop: (at + len) as u32,
                     line,
                 };
-                let Ok(()) = items.push(token) else {
-                    return Err(LexError::Memory);
-                };
+                items.push(token)?;
                 at += len;
             }
             Piece::Bad => return Err(LexError::BadByte { line }),

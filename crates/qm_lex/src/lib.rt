@@ -7,6 +7,3 @@ mod tokens;
 
 pub use lexer::{LexError, Piece, lex};
 pub use tokens::{Token, TokenKind, Tokens};
-
-#[cfg(test)]
-mod tests;

@@ -33,6 +33,13 @@ impl Tokens {
     ghost use Rattle.std.specs.Prelude.{◌≡◌, slice_get};
     ghost use Rattle.qm_lex.specs.Lexing.{token_list};
 
+    /// All of them, in their order.
+    pub fn as_slice(&self) -> &[Token]
+        ensures { result.now ≡ token_list self.now }
+    {
+        self.items.as_slice()
+    }
+
     /// How many there are.
     pub fn len(&self) -> u32
         ensures { result ≡ length (token_list self.now) }

@@ -1,9 +1,6 @@
 //! The limits of a text, of its programs and of their runs, each by its one name.
 #![tactic(auto)]
 
-#[cfg(test)]
-mod tests;
-
 /// How many bytes a text may have.
 pub const MOST_BYTES: usize = 1_048_576;
 

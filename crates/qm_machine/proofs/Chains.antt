@@ -10,13 +10,13 @@ use Rattle.qm_instr.specs.Programs.{Programs}
 use Rattle.qm_proto.specs.Model.State.{Part, Tables, with_part}
 use Rattle.qm_proto.specs.declared.Act.{Act}
 use Rattle.qm_proto.specs.declared.Act.TheVariants.{Fresh, Twin, Apply, SlotOut, NearOut, FarOut}
-use Rattle.qm_proto.specs.Model.Acts.{all_done, all_letters, list_of}
+use Rattle.qm_proto.specs.Model.Acts.{after_acts, acts_letters, list_of}
 use Rattle.qm_proto.specs.declared.Row.{Row}
 use Rattle.qm_proto.specs.Model.Rows.{current}
-use Rattle.qm_proto.specs.Model.Runs.{events_at, moved_on, row_next, row_done, row_letters}
+use Rattle.qm_proto.specs.Model.Runs.{events_at, part_after_event, row_next, row_tables, row_letters}
 use Rattle.qm_proto.specs.Model.Places.{Place, InSlot, NearOf, FarOf, IsAt}
 use Rattle.qm_proto.specs.May.{Limits, limits_after, limits_after_all}
-use Rattle.qm_proto.proofs.ActLists.{all_done-append, all_letters-append, limits_after_all-append}
+use Rattle.qm_proto.proofs.ActLists.{after_acts-append, acts_letters-append, limits_after_all-append}
 use Rattle.qm_machine.specs.Facts.{Facts, is_pauli, limits_of, IsSound, Did, moved}
 use Rattle.qm_machine.specs.Tries.{Advanced}
 
@@ -55,29 +55,29 @@ did_parcels f g r acts d = ap (λ (s : Limits). s.parcels) d.limits ∙ parcels_
 
 -- ---- some acts, and others after them
 module _ (f g h : Facts) (r : ℕ) (xs ys : List Act) (d : Did f r xs g) (e : Did g r ys h) where
-  letters_both : all_letters r (xs ++ ys) f.tables ≡ all_letters r xs f.tables ++ all_letters r ys g.tables
-  letters_both = all_letters-append r xs ys f.tables ∙ ap (λ t. all_letters r xs f.tables ++ all_letters r ys t) (sym d.tables)
+  letters_both : acts_letters r (xs ++ ys) f.tables ≡ acts_letters r xs f.tables ++ acts_letters r ys g.tables
+  letters_both = acts_letters-append r xs ys f.tables ∙ ap (λ t. acts_letters r xs f.tables ++ acts_letters r ys t) (sym d.tables)
 
-  stands_both : (c : Circuit) → StandsFor f.store c → StandsFor h.store (c ++ all_letters r (xs ++ ys) f.tables)
+  stands_both : (c : Circuit) → StandsFor f.store c → StandsFor h.store (c ++ acts_letters r (xs ++ ys) f.tables)
   stands_both c s =
-      let first = all_letters r xs f.tables in
-      let second = all_letters r ys g.tables in
+      let first = acts_letters r xs f.tables in
+      let second = acts_letters r ys g.tables in
       subst (StandsFor h.store) (append_assoc c first second ∙ ap (λ ls. c ++ ls) (sym letters_both)) (e.stands (c ++ first) (d.stands c s))
 
   -- a number that counts letters, counted over both
   counted_both : (before between after : ℕ) (count : List Letter → ℕ) → ((us vs : List Letter) → count (us ++ vs) ≡ count us + count vs)
-      → between ≡ before + count (all_letters r xs f.tables) → after ≡ between + count (all_letters r ys g.tables)
-      → after ≡ before + count (all_letters r (xs ++ ys) f.tables)
+      → between ≡ before + count (acts_letters r xs f.tables) → after ≡ between + count (acts_letters r ys g.tables)
+      → after ≡ before + count (acts_letters r (xs ++ ys) f.tables)
   counted_both before between after count adds first second =
-      let a = count (all_letters r xs f.tables) in
-      let b = count (all_letters r ys g.tables) in
+      let a = count (acts_letters r xs f.tables) in
+      let b = count (acts_letters r ys g.tables) in
       second ∙ ap (λ i. i + b) first ∙ add_assoc before a b
-      ∙ ap (λ i. before + i) (sym (adds (all_letters r xs f.tables) (all_letters r ys g.tables)) ∙ ap count (sym letters_both))
+      ∙ ap (λ i. before + i) (sym (adds (acts_letters r xs f.tables) (acts_letters r ys g.tables)) ∙ ap count (sym letters_both))
 
   pub did_both : Did f r (xs ++ ys) h
   did_both =
       record {
-        tables = e.tables ∙ ap (all_done r ys) d.tables ∙ sym (all_done-append r xs ys f.tables);
+        tables = e.tables ∙ ap (after_acts r ys) d.tables ∙ sym (after_acts-append r xs ys f.tables);
         stands = stands_both;
         sound = e.sound;
         limits = e.limits ∙ ap (limits_after_all ys) d.limits ∙ sym (limits_after_all-append xs ys (limits_of f));
@@ -98,7 +98,7 @@ moved_sound : (f : Facts) (r n : ℕ) → IsSound f → IsSound (moved f r n)
 moved_sound f r n sound =
     record {
       live = λ w.
-          let x = moved_on n (f.tables.parts r) in (
+          let x = part_after_event n (f.tables.parts r) in (
             λ here. let (p, at) = (sound.live w).0 here in (p, (at_with_part f.tables r x w p).1 at),
             λ (p, at). (sound.live w).1 (p, (at_with_part f.tables r x w p).0 at),
           );
@@ -117,9 +117,9 @@ advanced p f g h r n w is count d e =
     subst P (sym e) (
     record {
       tables =
-          ap (λ t. with_part t r (moved_on n (t.parts r))) d.tables
-          ∙ ap (λ k. row_done k r (Some w) f.tables) (sym count)
-          ∙ ap (λ o. row_done (events_at (current p f.tables r)) r o f.tables) (sym is);
+          ap (λ t. with_part t r (part_after_event n (t.parts r))) d.tables
+          ∙ ap (λ k. row_tables k r (Some w) f.tables) (sym count)
+          ∙ ap (λ o. row_tables (events_at (current p f.tables r)) r o f.tables) (sym is);
       stands = λ c s. rw is (d.stands c s);
       sound = moved_sound g r n d.sound;
       capacity = d.capacity;

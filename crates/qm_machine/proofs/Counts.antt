@@ -9,12 +9,12 @@ use Rattle.qm_instr.specs.declared.Instr.{Instr}
 use Rattle.qm_instr.specs.declared.Instr.TheVariants as instr
 use Rattle.qm_instr.specs.Programs.{Programs}
 use Rattle.qm_proto.specs.declared.Row.{Row}
-use Rattle.qm_proto.specs.Model.Acts.{list_of, all_done, more_at}
+use Rattle.qm_proto.specs.Model.Acts.{list_of, after_acts, more_at}
 use Rattle.qm_proto.specs.May.{Limits, AllMay}
 use Rattle.qm_proto.specs.Model.Rows.{rows, letter, few_if}
 use Rattle.qm_proto.specs.Model.State.{Tables, bit_of, first_bit, second_bit}
 use Rattle.qm_proto.proofs.Changes.{by_rank, with_at-here}
-use Rattle.qm_runs.specs.Tables.Well.{AreCounted}
+use Rattle.qm_safety.specs.Tables.Well.{AreCounted}
 use Rattle.qm_machine.specs.Facts.{size_at, AllMayCount}
 use Rattle.qm_machine.proofs.RowsRead.{each_line}
 
@@ -43,7 +43,7 @@ module _ (p : Programs) (t : Tables) (r n : ℕ) (s : Limits) (sizes : List ℕ)
 
   -- rank r may do the acts, and no buffer is too full after them
   abbrev IsCountable : Row → Type 0
-  IsCountable w = AllMay s r (list_of w.acts) t → Fit (all_done r (list_of w.acts) t).held → AllMayCount sizes r (list_of w.acts) t
+  IsCountable w = AllMay s r (list_of w.acts) t → Fit (after_acts r (list_of w.acts) t).held → AllMayCount sizes r (list_of w.acts) t
 
   if_counted : (b : Bool) (l : Letter) → AllMayCount sizes r (list_of (few_if b (letter l))) t
   if_counted true l = (tt, tt)

@@ -13,9 +13,9 @@ use Rattle.qm_proto.specs.declared.Row.{Row}
 use Rattle.qm_proto.specs.Model.Runs.{FirstFails, IsRefused, row_next, row_checks}
 use Rattle.qm_proto.specs.Model.Schedules.{IsStuck, RendezvousEnds}
 use Rattle.qm_proto.specs.Model.State.{Tables}
-use Rattle.qm_runs.proofs.Stuck.Rendezvous.{never_stuck_law}
-use Rattle.qm_runs.proofs.Weighing.Exponents.{exponent_law}
-use Rattle.qm_runs.specs.Safety.Legal.{IsLegalRun}
+use Rattle.qm_confluence.proofs.Stuck.Rendezvous.{never_stuck_law}
+use Rattle.qm_simulation.proofs.Laws.{exponent_law}
+use Rattle.qm_safety.specs.Safety.Legal.{IsLegalRun}
 use Rattle.qm_machine.specs.declared.Halt.{Halt}
 use Rattle.qm_machine.specs.declared.Step.{Step}
 use Rattle.qm_machine.specs.declared.Step.TheVariants as step

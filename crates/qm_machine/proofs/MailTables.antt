@@ -10,13 +10,13 @@ use Rattle.qm_denot.specs.Parcels.{IsFillable}
 use Rattle.qm_instr.specs.declared.Lane.{Lane}
 use Rattle.qm_instr.specs.Lanes.{lane_order}
 use Rattle.qm_check.specs.declared.LaneCount.{LaneCount}
-use Rattle.qm_mail.specs.Mails.{Line, parcels_on, sends_on, with_parcels, IsKnown, IsBelow, AreRising, HasBits}
+use Rattle.qm_mail.specs.Mails.{MailLane, parcels_on, sends_on, with_parcels, HasLane, IsBelowAll, AreRising, HasBits}
 use Rattle.qm_mail.proofs.Lanes as lanes
 use Rattle.qm_proto.specs.Model.State.{with_lane, no_parcel}
 use Rattle.qm_machine.specs.Views.{MailView, mail_of, with_mail}
 
 -- other parcels on a known lane
-pub mail_changed : (m : List Line) (a : Lane) (ys : List Parcel) → IsKnown m a → mail_of (with_parcels m a ys) ≡ with_mail (mail_of m) a ys
+pub mail_changed : (m : List MailLane) (a : Lane) (ys : List Parcel) → HasLane m a → mail_of (with_parcels m a ys) ≡ with_mail (mail_of m) a ys
 mail_changed m a ys known =
     let build : (Lane → List Parcel) → (Lane → ℕ) → MailView = λ on sends. record { lanes = on; parcels = sends } in
     let on : (b : Lane) → parcels_on (with_parcels m a ys) b ≡ with_lane (λ c. parcels_on m c) a ys b =
@@ -25,10 +25,10 @@ mail_changed m a ys known =
     ∙ ap (build (with_lane (λ c. parcels_on m c) a ys)) (fun_ext (λ b. lanes.sends_on-changed m a b ys))
 
 -- lanes on which something may be posted, filled or taken are known
-pub known_to_post : (m : List Line) (a : Lane) → length (parcels_on m a) < sends_on m a → IsKnown m a
+pub known_to_post : (m : List MailLane) (a : Lane) → length (parcels_on m a) < sends_on m a → HasLane m a
 known_to_post m a less = lanes.known_by_sends m a (omega (arith, less))
 
-pub known_to_fill : (m : List Line) (a : Lane) → IsFillable (parcels_on m a) → IsKnown m a
+pub known_to_fill : (m : List MailLane) (a : Lane) → IsFillable (parcels_on m a) → HasLane m a
 known_to_fill m a some = lanes.known_by_parcels m a (λ e. subst IsFillable e some)
 
 -- a front parcel that has bits
@@ -40,7 +40,7 @@ bits_there (x ∷ xs) bits = by_bits x.bits refl
     by_bits None e = absurd (bits e)
     by_bits (Some b) e = ap is_some e
 
-pub known_to_take : (m : List Line) (a : Lane) → HasBits (slice_get (parcels_on m a) 0) → IsKnown m a
+pub known_to_take : (m : List MailLane) (a : Lane) → HasBits (slice_get (parcels_on m a) 0) → HasLane m a
 known_to_take m a some = lanes.known_by_parcels m a (λ e. subst (λ xs. HasBits (slice_get xs 0)) e some)
 
 pub front_read : (xs : List Parcel) (x : Parcel) → slice_get xs 0 ≡ Some x → x ≡ slice_index_or xs 0 no_parcel
@@ -48,7 +48,7 @@ front_read [] x e = cc
 front_read (y ∷ xs) x e = cc
 
 -- lanes that are strictly sorted rise
-below_all : (a : Lane) (cs : List LaneCount) → AllByRecursion (λ y. lane_order a y ≡ Less) (map (λ (c : LaneCount). c.lane) cs) → IsBelow a cs
+below_all : (a : Lane) (cs : List LaneCount) → AllByRecursion (λ y. lane_order a y ≡ Less) (map (λ (c : LaneCount). c.lane) cs) → IsBelowAll a cs
 below_all a [] h = tt
 below_all a (c ∷ cs) h = (h.0, below_all a cs h.1)
 

@@ -11,7 +11,7 @@ use Rattle.qm_instr.specs.declared.Instr.TheVariants as instr
 use Rattle.qm_instr.specs.Counts.{events_of}
 use Rattle.qm_instr.specs.Programs.{RankProgram, Programs, rank_of, idle_rank, IsInRange}
 use Rattle.qm_check.specs.declared.Fault.{Fault}
-use Rattle.qm_check.specs.Checks.{IsReady, Step}
+use Rattle.qm_check.specs.Checks.{IsReady, AtInstr}
 use Rattle.qm_check.specs.Operands.{uses_of, partner_of}
 use Rattle.qm_check.specs.Slots.{partner_fault, slot_fault, fault_if_any, full_after}
 use Rattle.qm_denot.specs.Circuits.{Circuit}
@@ -30,7 +30,7 @@ use Rattle.qm_proto.specs.declared.Row.{Row}
 use Rattle.qm_proto.specs.Model.Rows.{rows, current, letter, letter_checks, gate_letter, few_if}
 use Rattle.qm_proto.specs.Model.Runs.{FirstFails, row_in, row_next, row_holds, row_checks, holds, enabled, has_event}
 use Rattle.qm_proto.proofs.Positions.{all_at_kept, all_stage_kept}
-use Rattle.qm_runs.proofs.Tables.Lines.{rows_count}
+use Rattle.qm_proto.proofs.Lines.{rows_count}
 use Rattle.qm_machine.specs.Facts.{Facts, Did}
 use Rattle.qm_machine.specs.Reads.{IsRuleKnown}
 use Rattle.qm_machine.specs.Tries.{Passes, Stops, IsTriable, asked, told_by, are_sure}
@@ -68,7 +68,7 @@ partner_below p r k i ready is d names =
     let n = length p.ranks in
     let full = full_after (take k (rank_of p r).instructions) in
     let slots = slot_fault r k full (uses_of i) in
-    let none : fault_if_any n r k full (Some i) ≡ None = ap (fault_if_any n r k full) (sym is) ∙ ready (Step r k) in
+    let none : fault_if_any n r k full (Some i) ≡ None = ap (fault_if_any n r k full) (sym is) ∙ ready (AtInstr r k) in
     let named : option_or (partner_fault n r k (Some d)) slots ≡ None = ap (λ o. option_or (partner_fault n r k o) slots) (sym names) ∙ none in
     ltb-true d n (no_bad_rank (nat_lt d n) (d == r) _ _ slots named)
 

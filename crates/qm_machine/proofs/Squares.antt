@@ -15,7 +15,7 @@ use Rattle.qm_denot.specs.declared.Parcel.{Parcel}
 use Rattle.qm_proto.specs.Model.State.{Tables, no_wire, with_at, with_part, far_made, near_made, near_last}
 use Rattle.qm_proto.specs.declared.Act.{Act}
 use Rattle.qm_proto.specs.declared.Act.TheVariants.{Fresh, Twin, Apply, NearOut, Settle, Posts, Fills, Receives, OwnUsed, ProtocolUsed, FirstKept, BitSet, SlotOut, FarOut}
-use Rattle.qm_proto.specs.Model.Acts.{counted, done, all_letters, more_at, less_at}
+use Rattle.qm_proto.specs.Model.Acts.{with_one_counted, after_act, acts_letters, more_at, less_at}
 use Rattle.qm_proto.specs.May.{Limits, MayLetter, limits_after}
 use Rattle.qm_proto.specs.Model.Places.{InSlot, NearOf, FarOf, IsPlaced, IsOnlyAt, IsOwn}
 use Rattle.qm_proto.proofs.TidyChanges.{slot_changed, near_more, far_more, near_less, far_less}
@@ -47,14 +47,14 @@ same_limits s n ranks wires parcels letters =
     ∙ ap (λ (x : ℕ). limits n.ranks n.wires n.parcels x) letters
 
 -- the act is done: the tables are the model's, the live wires are those with a place, and the limits are what it leaves
-did : (f g : Facts) (r : ℕ) (act : Act) → Can f r (act ∷ []) → g.tables ≡ done r act f.tables
-    → Beside f g (all_letters r (act ∷ []) f.tables) → AreLive g.store.live (done r act f.tables)
+did : (f g : Facts) (r : ℕ) (act : Act) → Can f r (act ∷ []) → g.tables ≡ after_act r act f.tables
+    → Beside f g (acts_letters r (act ∷ []) f.tables) → AreLive g.store.live (after_act r act f.tables)
     → length g.store.live ≤ g.places.capacity → room_of g ≡ (limits_after act (limits_of f)).wires
     → (limits_after act (limits_of f)).ranks ≡ f.ranks → (limits_after act (limits_of f)).parcels ≡ f.parcels
-    → (limits_after act (limits_of f)).letters ≡ (2 ^ 32 - f.letters) - length (all_letters r (act ∷ []) f.tables)
+    → (limits_after act (limits_of f)).letters ≡ (2 ^ 32 - f.letters) - length (acts_letters r (act ∷ []) f.tables)
     → Did f r (act ∷ []) g
 did f g r act can tables beside live few_live room ranks parcels letters =
-    let ls = all_letters r (act ∷ []) f.tables in
+    let ls = acts_letters r (act ∷ []) f.tables in
     let few : count_by is_pauli ls ≤ length ls = count_by-le-length is_pauli ls in
     let fewer : f.paulis ≤ f.letters = can.sound.fewer in
     let more = beside.letters in
@@ -106,8 +106,8 @@ same_beside f t room n placing parcels ranks =
     }
 
 module _ (f g : Facts) (r : ℕ) (same : SameStore f g) where
-  did_quietly : (act : Act) → Can f r (act ∷ []) → g.tables ≡ done r act f.tables → all_letters r (act ∷ []) f.tables ≡ []
-      → limits_after act (limits_of f) ≡ limits_of f → AreLive f.store.live (done r act f.tables) → Did f r (act ∷ []) g
+  did_quietly : (act : Act) → Can f r (act ∷ []) → g.tables ≡ after_act r act f.tables → acts_letters r (act ∷ []) f.tables ≡ []
+      → limits_after act (limits_of f) ≡ limits_of f → AreLive f.store.live (after_act r act f.tables) → Did f r (act ∷ []) g
   did_quietly act can tables none left live =
       let letters = same.letters in
       let paulis = same.paulis in
@@ -123,38 +123,38 @@ module _ (f g : Facts) (r : ℕ) (same : SameStore f g) where
         letters = omega arith;
         paulis = omega arith;
       } in
-      did f g r act can tables (subst (Beside f g) (sym none) beside) (subst (λ (s : Store). AreLive s.live (done r act f.tables)) (sym same.store) live)
+      did f g r act can tables (subst (Beside f g) (sym none) beside) (subst (λ (s : Store). AreLive s.live (after_act r act f.tables)) (sym same.store) live)
       (omega (arith, can.sound.few, same.capacity, ap (λ (s : Store). length s.live) same.store))
       (ap₂ (λ (n : ℕ) (s : Store). n - length s.live) same.capacity same.store ∙ ap (λ (s : Limits). s.wires) (sym left)) (ap (λ (s : Limits). s.ranks) left) (ap (λ (s : Limits). s.parcels) left)
       (ap (λ (s : Limits). s.letters) left ∙ rw none (omega arith))
 
   -- parts and lanes may change, and no wire moves
   same_live : (act : Act) → IsSound f
-      → AreLive f.store.live (record f.tables { parts = (done r act f.tables).parts; held = f.tables.held; lanes = (done r act f.tables).lanes })
-  same_live act sound = live_beside f.tables (done r act f.tables).parts f.tables.held (done r act f.tables).lanes f.store.live sound.live
+      → AreLive f.store.live (record f.tables { parts = (after_act r act f.tables).parts; held = f.tables.held; lanes = (after_act r act f.tables).lanes })
+  same_live act sound = live_beside f.tables (after_act r act f.tables).parts f.tables.held (after_act r act f.tables).lanes f.store.live sound.live
 
-  pub did_post : (a : Lane) (x : Parcel) → Can f r (Posts a x ∷ []) → g.tables ≡ done r (Posts a x) f.tables → Did f r (Posts a x ∷ []) g
+  pub did_post : (a : Lane) (x : Parcel) → Can f r (Posts a x ∷ []) → g.tables ≡ after_act r (Posts a x) f.tables → Did f r (Posts a x ∷ []) g
   did_post a x can tables = did_quietly (Posts a x) can tables refl refl (same_live (Posts a x) can.sound)
 
-  pub did_fill : (a : Lane) (b : Bool × Bool) → Can f r (Fills a b ∷ []) → g.tables ≡ done r (Fills a b) f.tables → Did f r (Fills a b ∷ []) g
+  pub did_fill : (a : Lane) (b : Bool × Bool) → Can f r (Fills a b ∷ []) → g.tables ≡ after_act r (Fills a b) f.tables → Did f r (Fills a b ∷ []) g
   did_fill a b can tables = did_quietly (Fills a b) can tables refl refl (same_live (Fills a b) can.sound)
 
-  pub did_receive : (a : Lane) → Can f r (Receives a ∷ []) → g.tables ≡ done r (Receives a) f.tables → Did f r (Receives a ∷ []) g
+  pub did_receive : (a : Lane) → Can f r (Receives a ∷ []) → g.tables ≡ after_act r (Receives a) f.tables → Did f r (Receives a ∷ []) g
   did_receive a can tables = did_quietly (Receives a) can tables refl refl (same_live (Receives a) can.sound)
 
-  pub did_use : Can f r (ProtocolUsed ∷ []) → g.tables ≡ done r ProtocolUsed f.tables → Did f r (ProtocolUsed ∷ []) g
+  pub did_use : Can f r (ProtocolUsed ∷ []) → g.tables ≡ after_act r ProtocolUsed f.tables → Did f r (ProtocolUsed ∷ []) g
   did_use can tables = did_quietly ProtocolUsed can tables refl refl (same_live ProtocolUsed can.sound)
 
-  pub did_use_own : Can f r (OwnUsed ∷ []) → g.tables ≡ done r OwnUsed f.tables → Did f r (OwnUsed ∷ []) g
+  pub did_use_own : Can f r (OwnUsed ∷ []) → g.tables ≡ after_act r OwnUsed f.tables → Did f r (OwnUsed ∷ []) g
   did_use_own can tables = did_quietly OwnUsed can tables refl refl (same_live OwnUsed can.sound)
 
-  pub did_keep : (m : Bool) → Can f r (FirstKept m ∷ []) → g.tables ≡ done r (FirstKept m) f.tables → Did f r (FirstKept m ∷ []) g
+  pub did_keep : (m : Bool) → Can f r (FirstKept m ∷ []) → g.tables ≡ after_act r (FirstKept m) f.tables → Did f r (FirstKept m ∷ []) g
   did_keep m can tables = did_quietly (FirstKept m) can tables refl refl (same_live (FirstKept m) can.sound)
 
-  pub did_set : (b : ℕ) (v : Bool) → Can f r (BitSet b v ∷ []) → g.tables ≡ done r (BitSet b v) f.tables → Did f r (BitSet b v ∷ []) g
+  pub did_set : (b : ℕ) (v : Bool) → Can f r (BitSet b v ∷ []) → g.tables ≡ after_act r (BitSet b v) f.tables → Did f r (BitSet b v ∷ []) g
   did_set b v can tables = did_quietly (BitSet b v) can tables refl refl (same_live (BitSet b v) can.sound)
 
-  pub did_settle : (h : Wire) (q : ℕ) → Can f r (Settle h q ∷ []) → g.tables ≡ done r (Settle h q) f.tables → Did f r (Settle h q ∷ []) g
+  pub did_settle : (h : Wire) (q : ℕ) → Can f r (Settle h q ∷ []) → g.tables ≡ after_act r (Settle h q) f.tables → Did f r (Settle h q ∷ []) g
   did_settle h q can tables =
       let t = f.tables in
       let u = slot_changed (far_less t r h) r q (Some h) in
@@ -163,18 +163,18 @@ module _ (f g : Facts) (r : ℕ) (same : SameStore f g) where
       (live_settled t r q h f.store.live can.may.0.only can.may.0.empty can.sound.live))
 
 -- ---- a fresh wire
-pub did_fresh : (f g : Facts) (r q : ℕ) → Can f r (Fresh q ∷ []) → g.tables ≡ done r (Fresh q) f.tables → Beside f g []
+pub did_fresh : (f g : Facts) (r q : ℕ) → Can f r (Fresh q ∷ []) → g.tables ≡ after_act r (Fresh q) f.tables → Beside f g []
     → g.store.live ≡ f.store.live ++ far_made f.tables r ∷ [] → Did f r (Fresh q ∷ []) g
 did_fresh f g r q can tables beside live =
     let t = f.tables in
     let w = far_made t r in
-    let u = with_part t r (counted (t.parts r)) in
+    let u = with_part t r (with_one_counted (t.parts r)) in
     let ws = f.store.live in
     let more : length g.store.live ≡ length ws + 1 = ap length live ∙ length_push ws w in
     let placed = live_more u (slot_changed u r q (Some w)) w (InSlot r q) ws (slot_comes u r q w can.may.0.empty) (live_beside t u.parts t.held t.lanes ws can.sound.live) in
     let capacity = beside.capacity in
     let wide = can.may.0.room in
-    did f g r (Fresh q) can tables beside (subst (λ xs. AreLive xs (done r (Fresh q) t)) (sym live) placed)
+    did f g r (Fresh q) can tables beside (subst (λ xs. AreLive xs (after_act r (Fresh q) t)) (sym live) placed)
     (omega arith) (omega arith) refl refl (omega arith)
 
 -- ---- a pair
@@ -190,21 +190,21 @@ may_pair f r to can grow =
       grow,
     )
 
-pub did_twin : (f g : Facts) (r to : ℕ) → Can f r (Twin to ∷ []) → g.tables ≡ done r (Twin to) f.tables
+pub did_twin : (f g : Facts) (r to : ℕ) → Can f r (Twin to ∷ []) → g.tables ≡ after_act r (Twin to) f.tables
     → Beside f g (Pair (near_made f.tables r) (far_made f.tables r) ∷ [])
     → g.store.live ≡ f.store.live ++ near_made f.tables r ∷ far_made f.tables r ∷ [] → Did f r (Twin to ∷ []) g
 did_twin f g r to can tables beside live =
     let t = f.tables in
     let e = near_made t r in
     let w = far_made t r in
-    let u = record t { parts = with_at t.parts r (counted (t.parts r)); held = more_at (more_at t.held r) to } in
+    let u = record t { parts = with_at t.parts r (with_one_counted (t.parts r)); held = more_at (more_at t.held r) to } in
     let ws = f.store.live in
     let more : length g.store.live ≡ length ws + 2 = ap length live ∙ length-append ws (e ∷ w ∷ []) in
     let near = live_more u (near_more u r e) e (NearOf r) ws (near_comes u r e) (live_beside t u.parts u.held t.lanes ws can.sound.live) in
     let wide = can.may.0.room in
     let both = live_more (near_more u r e) (far_more (near_more u r e) to w) w (FarOf to) (ws ++ e ∷ []) (far_comes (near_more u r e) to w) near in
     let capacity = beside.capacity in
-    did f g r (Twin to) can tables beside (subst (λ xs. AreLive xs (done r (Twin to) t)) (append_assoc ws (e ∷ []) (w ∷ []) ∙ sym live) both)
+    did f g r (Twin to) can tables beside (subst (λ xs. AreLive xs (after_act r (Twin to) t)) (append_assoc ws (e ∷ []) (w ∷ []) ∙ sym live) both)
     (omega arith) (omega arith) refl refl (omega arith)
 
 -- ---- a letter that moves no wire
@@ -248,7 +248,7 @@ pub near_lives : (f : Facts) (r : ℕ) (m : Bool) → Can f r (NearOut m ∷ [])
 near_lives f r m can = (can.sound.live (near_last f.tables r)).1 (NearOf r, can.may.0.only.here)
 
 pub did_near_out : (f g : Facts) (r : ℕ) (m : Bool) → Can f r (NearOut m ∷ []) → IsStoreSound f.store
-    → g.tables ≡ done r (NearOut m) f.tables → Beside f g (Take (near_last f.tables r) m ∷ [])
+    → g.tables ≡ after_act r (NearOut m) f.tables → Beside f g (Take (near_last f.tables r) m ∷ [])
     → g.store.live ≡ without_wire f.store.live (near_last f.tables r) → Did f r (NearOut m ∷ []) g
 did_near_out f g r m can store tables beside live =
     let t = f.tables in
@@ -260,7 +260,7 @@ did_near_out f g r m can store tables beside live =
     let capacity = beside.capacity in
     let less = live_less t (near_less t r w) w ws (near_leaves t r w can.may.0.only) can.sound.live in
     let gone = live_beside (near_less t r w) t.parts (less_at t.held r) t.lanes (without_wire ws w) less in
-    did f g r (NearOut m) can tables beside (subst (λ xs. AreLive xs (done r (NearOut m) t)) (sym live) gone)
+    did f g r (NearOut m) can tables beside (subst (λ xs. AreLive xs (after_act r (NearOut m) t)) (sym live) gone)
     (omega arith) (omega arith) refl refl (omega arith)
 
 -- ---- a wire that is measured away, by whichever act
@@ -268,9 +268,9 @@ module _ (f g : Facts) (r : ℕ) (w : Wire) (m : Bool) (act : Act) (can : Can f 
   taken_lives : Contains f.store.live w
   taken_lives = (can.sound.live w).1 here
 
-  did_take : g.tables ≡ done r act f.tables → Beside f g (Take w m ∷ []) → all_letters r (act ∷ []) f.tables ≡ Take w m ∷ []
+  did_take : g.tables ≡ after_act r act f.tables → Beside f g (Take w m ∷ []) → acts_letters r (act ∷ []) f.tables ≡ Take w m ∷ []
       → limits_after act (limits_of f) ≡ record (limits_of f) { wires = room_of f + 1; letters = (2 ^ 32 - f.letters) - 1 }
-      → g.store.live ≡ without_wire f.store.live w → AreLive (without_wire f.store.live w) (done r act f.tables) → Did f r (act ∷ []) g
+      → g.store.live ≡ without_wire f.store.live w → AreLive (without_wire f.store.live w) (after_act r act f.tables) → Did f r (act ∷ []) g
   did_take tables beside letters left live gone =
       let ws = f.store.live in
       let fewer : length (without_wire ws w) + 1 ≡ length ws = length-without_wire ws w store.distinct taken_lives in
@@ -278,12 +278,12 @@ module _ (f g : Facts) (r : ℕ) (w : Wire) (m : Bool) (act : Act) (can : Can f 
       let few = can.sound.few in
       let capacity = beside.capacity in
       let room : room_of g ≡ room_of f + 1 = omega arith in
-      did f g r act can tables (subst (Beside f g) (sym letters) beside) (subst (λ xs. AreLive xs (done r act f.tables)) (sym live) gone)
+      did f g r act can tables (subst (Beside f g) (sym letters) beside) (subst (λ xs. AreLive xs (after_act r act f.tables)) (sym live) gone)
       (omega arith) (room ∙ sym (ap (λ (s : Limits). s.wires) left)) (ap (λ (s : Limits). s.ranks) left) (ap (λ (s : Limits). s.parcels) left)
       (ap (λ (s : Limits). s.letters) left ∙ rw letters (omega arith))
 
 pub did_far_out : (f g : Facts) (r : ℕ) (w : Wire) (m : Bool) → Can f r (FarOut w m ∷ []) → IsStoreSound f.store
-    → g.tables ≡ done r (FarOut w m) f.tables → Beside f g (Take w m ∷ [])
+    → g.tables ≡ after_act r (FarOut w m) f.tables → Beside f g (Take w m ∷ [])
     → g.store.live ≡ without_wire f.store.live w → Did f r (FarOut w m ∷ []) g
 did_far_out f g r w m can store tables beside live =
     let t = f.tables in
@@ -299,10 +299,10 @@ slot_wire f r q m w can is =
     subst (λ v. IsOnlyAt f.tables v (InSlot r q)) (same_Some can.may.0.wire w (sym only.here ∙ is)) only
 
 pub did_slot_out : (f g : Facts) (r q : ℕ) (m : Bool) (w : Wire) → Can f r (SlotOut q m ∷ []) → f.tables.slots r q ≡ Some w → IsStoreSound f.store
-    → g.tables ≡ done r (SlotOut q m) f.tables → Beside f g (Take w m ∷ [])
+    → g.tables ≡ after_act r (SlotOut q m) f.tables → Beside f g (Take w m ∷ [])
     → g.store.live ≡ without_wire f.store.live w → Did f r (SlotOut q m ∷ []) g
 did_slot_out f g r q m w can is store tables beside live =
-    let letters : all_letters r (SlotOut q m ∷ []) f.tables ≡ Take w m ∷ [] = ap (λ (o : Option Wire). Take (unwrap_or o no_wire) m ∷ []) is in
+    let letters : acts_letters r (SlotOut q m ∷ []) f.tables ≡ Take w m ∷ [] = ap (λ (o : Option Wire). Take (unwrap_or o no_wire) m ∷ []) is in
     let t = f.tables in
     let leaves = slot_leaves t r q w (slot_wire f r q m w can is) in
     did_take f g r w m (SlotOut q m) can store (InSlot r q, is) tables beside letters refl live

@@ -1,5 +1,5 @@
 -- A machine before its first event, and bounds on what its readers tell
-use Rattle.std.proofs.Common.{◌≡◌, ◌<◌, ◌≤◌, ◌↔◌, ℕ, List, [], Option, None, Some, Contains, length, count_by, refl, sym, ap, subst, ◌∙◌, arith}
+use Rattle.std.proofs.Common.{◌≡◌, ◌<◌, ◌≤◌, ◌↔◌, ℕ, List, [], Option, None, Some, Ok, Contains, length, count_by, refl, sym, ap, subst, ◌∙◌, arith}
 use Rattle.std.proofs.lemmas.List.{length-map}
 use Rattle.std.proofs.lemmas.List.{get_or-map}
 use Rattle.qm_denot.specs.declared.Wire.{Wire}
@@ -8,14 +8,15 @@ use Rattle.qm_denot.proofs.Sets.{has-no_wires}
 use Rattle.qm_instr.specs.Programs.{RankProgram, Programs, IsInRange, rank_of, idle_rank}
 use Rattle.qm_owner.specs.Places.{PlaceMap, IsPlacing}
 use Rattle.qm_check.specs.Checks.{IsReady, capacity_of}
+use Rattle.qm_expand.specs.Reading.{Reads}
 use Rattle.qm_proto.specs.Model.State.{State, Tables}
 use Rattle.qm_proto.specs.Model.Places.{InSlot, NearOf, FarOf, IsPlaced}
 use Rattle.qm_proto.specs.Model.Schedules.{replay, tables_at_start, state_at_start, IsLegal}
 use Rattle.qm_machine.specs.declared.Halt.{Halt}
 use Rattle.qm_machine.specs.Facts.{Facts, IsAtStart, IsSound, is_pauli, size_at}
-use Rattle.qm_runs.specs.Tables.Totals.{event_total}
+use Rattle.qm_proto.specs.Model.Totals.{event_total}
 use Rattle.qm_machine.specs.Keeps.{IsKept}
-use Rattle.qm_runs.proofs.Tables.Standing.{well, well_roomy}
+use Rattle.qm_safety.proofs.Tables.Standing.{well, well_roomy}
 
 -- nothing has a place at the start
 unplaced : (p : Programs) (w : Wire) → ¬ (IsPlaced (tables_at_start p) w)
@@ -48,12 +49,13 @@ sound_at_start p s f a empty wide =
       fewer = omega arith;
     }
 
-pub kept_at_start : (p : Programs) (s : Store) (f : Facts) (room : ℕ) (rs : List ℕ) → IsReady p → IsInRange p → IsAtStart p s f
-    → StandsFor s [] → s.live ≡ [] → capacity_of p ≤ s.capacity → event_total p ≤ room → rs ≡ [] → IsKept p rs None f room
-kept_at_start p s f room rs ready ranged a stands empty wide turns e =
-    subst (λ (xs : List ℕ). IsKept p xs None f room) (sym e)
+pub kept_at_start : (text : List ℕ) (p : Programs) (s : Store) (f : Facts) (room : ℕ) (rs : List ℕ) → Reads text (Ok p) → IsReady p → IsInRange p → IsAtStart p s f
+    → StandsFor s [] → s.live ≡ [] → capacity_of p ≤ s.capacity → event_total p ≤ room → rs ≡ [] → IsKept text p rs None f room
+kept_at_start text p s f room rs reads ready ranged a stands empty wide turns e =
+    subst (λ (xs : List ℕ). IsKept text p xs None f room) (sym e)
     (let back : state_at_start p ≡ replay p [] = sym (replay_nothing p) in
     record {
+      reads = reads;
       ready = ready;
       in_range = ranged;
       legal = legal_nothing p;
@@ -70,7 +72,7 @@ kept_at_start p s f room rs ready ranged a stands empty wide turns e =
       halt = tt;
     })
 
-module _ (p : Programs) (rs : List ℕ) (h : Option Halt) (f : Facts) (room : ℕ) (k : IsKept p rs h f room) (r : ℕ) (known : r < length p.ranks) where
+module _ {text : List ℕ} {p : Programs} {rs : List ℕ} {h : Option Halt} {f : Facts} {room : ℕ} (k : IsKept text p rs h f room) (r : ℕ) (known : r < length p.ranks) where
   -- a rank's buffer has the size that its program says
   pub kept_size : size_at f.sizes r ≡ (rank_of p r).buffer
   kept_size =
@@ -80,9 +82,9 @@ module _ (p : Programs) (rs : List ℕ) (h : Option Halt) (f : Facts) (room : �
   kept_sized = omega (arith, known, ap (λ (ns : List ℕ). length ns) k.sizes, length-map p.ranks (λ (x : RankProgram). x.buffer))
 
 -- a rank that there isn't has no wire
-pub no_slot_elsewhere : (p : Programs) (rs : List ℕ) (h : Option Halt) (f : Facts) (room : ℕ) → IsKept p rs h f room
+pub no_slot_elsewhere : {text : List ℕ} {p : Programs} {rs : List ℕ} {h : Option Halt} {f : Facts} {room : ℕ} → IsKept text p rs h f room
     → (r q : ℕ) → ¬ (r < length p.ranks) → (replay p rs).tables.slots r q ≡ None
-no_slot_elsewhere p rs h f room k r q unknown = by_slot (t.slots r q) refl
+no_slot_elsewhere {text} {p} {rs} {h} {f} {room} k r q unknown = by_slot (t.slots r q) refl
   where
     t : Tables
     t = (replay p rs).tables

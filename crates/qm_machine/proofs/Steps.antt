@@ -25,13 +25,11 @@ use Rattle.qm_machine.specs.Tries.{Passes, Stops, Advanced}
 use Rattle.qm_machine.specs.Views.{facts}
 use Rattle.qm_machine.specs.Keeps.{MachineView, IsKept, Keeps, MayHalt, HaltsAt, IsSame, StepDid, StepBlocked, StepEnded, StepHalts, MayGo, MustWait, event_of, halt_of}
 use Rattle.qm_proto.proofs.Replays.{replay-push, legal-push}
-use Rattle.qm_runs.specs.Safety.Legal.{IsLegalRun}
-use Rattle.qm_runs.proofs.Following.Simulating.{simulation_law}
-use Rattle.qm_runs.proofs.Headline.{headline_law}
-use Rattle.qm_runs.proofs.Safety.States.{safe}
-use Rattle.qm_runs.proofs.Tables.Standing.{well}
-use Rattle.qm_runs.proofs.Tables.Counting.{event_where_held, schedule_few, event_total_few}
-use Rattle.qm_runs.proofs.Weighing.Weights.{weight_law}
+use Rattle.qm_safety.specs.Safety.Legal.{IsLegalRun}
+use Rattle.qm_simulation.proofs.Laws.{simulation_law, headline_law, weight_law}
+use Rattle.qm_safety.proofs.Laws.{safe}
+use Rattle.qm_safety.proofs.Tables.Standing.{well}
+use Rattle.qm_proto.proofs.Counting.{event_where_held, schedule_few, event_total_few}
 
 -- the store of what a body means is the body's
 pub facts_store : {A : Type 0} (store : A → Store) (b : Body A) → (facts store b).store ≡ store b.amps
@@ -56,7 +54,7 @@ paulis_on p r t u c n m e l a =
     subst (λ (x : ℕ). m ≡ x + count_by is_pauli (next_letters p t r)) l a in
     subst (λ (x : Tables). m ≡ count_by is_pauli (c ++ next_letters p x r)) e (b ∙ sym (sum_by-append (λ (l : Letter). cond (is_pauli l) 1 0) c (next_letters p t r)))
 
-module _ (p : Programs) (rs : List ℕ) (h : Option Halt) (f : Facts) (room : ℕ) (k : IsKept p rs h f room) where
+module _ {text : List ℕ} {p : Programs} {rs : List ℕ} {h : Option Halt} {f : Facts} {room : ℕ} (k : IsKept text p rs h f room) where
   -- a fact of the body's tables is one of the replay's, and the other way round
   pub at_replay : (P : Tables → Type 0) → P f.tables → P (replay p rs).tables
   at_replay P x = subst P k.tables x
@@ -64,8 +62,8 @@ module _ (p : Programs) (rs : List ℕ) (h : Option Halt) (f : Facts) (room : �
   pub at_body : (P : Tables → Type 0) → P (replay p rs).tables → P f.tables
   at_body P x = subst P (sym k.tables) x
 
-  pub kept_same : (g : Facts) → g ≡ f → IsKept p rs h g room
-  kept_same g e = subst (λ (x : Facts). IsKept p rs h x room) (sym e) k
+  pub kept_same : (g : Facts) → g ≡ f → IsKept text p rs h g room
+  kept_same g e = subst (λ (x : Facts). IsKept text p rs h x room) (sym e) k
 
   pub kept_short : length rs ≤ 500000
   kept_short = omega (arith, schedule_few p rs k.legal, event_total_few p k.in_range)
@@ -91,11 +89,12 @@ module _ (p : Programs) (rs : List ℕ) (h : Option Halt) (f : Facts) (room : �
           allowed = subst (λ (o : Option Row). NoneFails (replay p rs).circuit (row_checks o)) (sym next_is) (passes (replay p rs).circuit k.stands);
         }
 
-    pub kept_did : (g : Facts) → h ≡ None → Passes f (list_of w.checks) → Advanced p f r g → IsKept p (rs ++ r ∷ []) h g room
+    pub kept_did : (g : Facts) → h ≡ None → Passes f (list_of w.checks) → Advanced p f r g → IsKept text p (rs ++ r ∷ []) h g room
     kept_did g running passes done =
         let s = replay p rs in
         let after : next p s r ≡ replay p (rs ++ r ∷ []) = sym (replay-push p rs r) in
         record {
+          reads = k.reads;
           ready = k.ready;
           in_range = k.in_range;
           legal = legal-push p rs r k.legal (may_step passes);
@@ -116,23 +115,24 @@ module _ (p : Programs) (rs : List ℕ) (h : Option Halt) (f : Facts) (room : �
         }
 
 -- what is seen of a machine with this body
-abbrev shown : {A : Type 0} → Programs → List ℕ → Option Halt → Body A → MachineView A
-shown p rs h b = record { programs = p; schedule = rs; halted = h; amps = b.amps }
+abbrev shown : {A : Type 0} → List ℕ → Programs → List ℕ → Option Halt → Body A → MachineView A
+shown text p rs h b = record { text = text; programs = p; schedule = rs; halted = h; amps = b.amps }
 
-module _ {A : Type 0} (store : A → Store) (p : Programs) (rs : List ℕ) (h : Option Halt) (b : Body A) (room : ℕ)
-    (k : IsKept p rs h (facts store b) room) where
-  pub keeps : Keeps store (shown p rs h b)
+module _ {A : Type 0} (store : A → Store) {text : List ℕ} {p : Programs} {rs : List ℕ} {h : Option Halt} (b : Body A) {room : ℕ}
+    (k : IsKept text p rs h (facts store b) room) where
+  pub keeps : Keeps store (shown text p rs h b)
   keeps =
       let e : (facts store b).store ≡ store b.amps = facts_store store b in
       let run : IsLegalRun p rs = record { ready = k.ready; in_range = k.in_range; legal = k.legal } in
       record {
+        reads = k.reads;
         ready = k.ready;
         in_range = k.in_range;
         legal = k.legal;
-        short = kept_short _ _ _ _ _ k;
+        short = kept_short k;
         stands = subst (λ (s : Store). StandsFor s (replay p rs).circuit) e k.stands;
         placed = subst (λ (s : Store). (w : Wire) → Contains s.live w ↔ IsPlaced (replay p rs).tables w) e
-            (at_replay _ _ _ _ _ k (λ (x : Tables). (w : Wire) → Contains (facts store b).store.live w ↔ IsPlaced x w) k.sound.live);
+            (at_replay k (λ (x : Tables). (w : Wire) → Contains (facts store b).store.live w ↔ IsPlaced x w) k.sound.live);
         tidy = (well p k.ready k.in_range rs k.legal).tidy;
         safe = safe p rs run;
         simulated = simulation_law p k.ready k.in_range rs k.legal;
@@ -143,57 +143,58 @@ module _ {A : Type 0} (store : A → Store) (p : Programs) (rs : List ℕ) (h : 
       }
 
   -- a machine with another halt, and a body that means the same
-  same : (d : Body A) (j : Option Halt) → facts store d ≡ facts store b → IsSame store (shown p rs j b) (shown p rs j d)
+  same : (d : Body A) (j : Option Halt) → facts store d ≡ facts store b → IsSame store (shown text p rs j b) (shown text p rs j d)
   same d j e =
       let contents : store d.amps ≡ store b.amps =
       sym (facts_store store d) ∙ ap (λ (f : Facts). f.store) e ∙ facts_store store b in
-      record { programs = refl; schedule = refl; halted = refl; contents = contents }
+      record { text = refl; programs = refl; schedule = refl; halted = refl; contents = contents }
 
   at_schedule : (P : Tables → Type 0) → P (facts store b).tables → P (replay p rs).tables
-  at_schedule P x = at_replay p rs h (facts store b) room k P x
+  at_schedule P x = at_replay k P x
 
-  pub step_ended : (r : ℕ) → h ≡ None → row_next p (facts store b).tables r ≡ None → StepEnded store (shown p rs h b) r (shown p rs h b)
+  pub step_ended : (r : ℕ) → h ≡ None → row_next p (facts store b).tables r ≡ None → StepEnded store (shown text p rs h b) r (shown text p rs h b)
   step_ended r running none =
       record { running = running; none = at_schedule (λ (x : Tables). has_event p x r ≡ false) (ap is_some none); same = same b h refl }
 
-  module _ (r : ℕ) (why : Why) (wait : MustWait (shown p rs h b) r why) where
-    pub step_blocked : ¬ (IsStuck p (replay p rs).tables) → StepBlocked store (shown p rs h b) r why (shown p rs h b)
+  module _ (r : ℕ) (why : Why) (wait : MustWait (shown text p rs h b) r why) where
+    pub step_blocked : ¬ (IsStuck p (replay p rs).tables) → StepBlocked store (shown text p rs h b) r why (shown text p rs h b)
     step_blocked moves =
         record { running = wait.running; left = wait.left; unable = wait.unable; moves = moves; why_so = wait.why_so; same = same b h refl }
 
     pub step_stuck : (lowest : ℕ) → IsStuck p (replay p rs).tables → IsLowestLeft p (facts store b).tables lowest
-        → StepHalts store (shown p rs h b) r (shown p rs (Some (halt_of lowest rs cause.Stuck)) b)
+        → StepHalts store (shown text p rs h b) r (shown text p rs (Some (halt_of lowest rs cause.Stuck)) b)
     step_stuck lowest stuck left =
         record {
           running = wait.running;
           left = wait.left;
           halt = halt_of lowest rs cause.Stuck;
-          why = halts_stuck p rs h (facts store b) room k lowest stuck left;
+          why = halts_stuck k lowest stuck left;
           who = inr stuck;
           new = same b (Some (halt_of lowest rs cause.Stuck)) refl;
         }
 
-  module _ (d : Body A) (r : ℕ) (w : Row) (go : MayGo (shown p rs h b) r w) where
+  module _ (d : Body A) (r : ℕ) (w : Row) (go : MayGo (shown text p rs h b) r w) where
     pub step_refused : (c : Cause) → Stops (facts store b) (list_of w.checks) c → facts store d ≡ facts store b
-        → StepHalts store (shown p rs h b) r (shown p rs (Some (halt_of r rs c)) d)
+        → StepHalts store (shown text p rs h b) r (shown text p rs (Some (halt_of r rs c)) d)
     step_refused c stops e =
         record {
           running = go.running;
           left = event_where_held p (replay p rs).tables _ go.able;
           halt = halt_of r rs c;
-          why = halts_refused p rs h (facts store b) room k r w go.known go.able go.next c stops;
+          why = halts_refused k r w go.known go.able go.next c stops;
           who = inl refl;
           new = same d (Some (halt_of r rs c)) e;
         }
 
     pub step_did : (qs : List ℕ) → qs ≡ rs ++ r ∷ [] → Passes (facts store b) (list_of w.checks)
-        → StepDid store (shown p rs h b) r w.event (shown p qs h d)
+        → StepDid store (shown text p rs h b) r w.event (shown text p qs h d)
     step_did qs e passes =
-        let may = may_step p rs h (facts store b) room k r w go.known go.able go.next passes in
+        let may = may_step k r w go.known go.able go.next passes in
         record {
           running = go.running;
           may = may;
           event_so = ap event_of go.next;
+          text = refl;
           programs = refl;
           schedule = e;
           short =

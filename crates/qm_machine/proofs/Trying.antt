@@ -6,7 +6,7 @@ use Rattle.qm_denot.specs.WireLists.{Distinct}
 use Rattle.qm_denot.proofs.Unique.{exponent_at_most}
 use Rattle.qm_instr.specs.Programs.{Programs, rank_of}
 use Rattle.qm_proto.specs.Model.State.{Tables}
-use Rattle.qm_proto.specs.Model.Acts.{list_of, all_done}
+use Rattle.qm_proto.specs.Model.Acts.{list_of, after_acts}
 use Rattle.qm_proto.specs.Model.Runs.{enabled, has_event, row_next, next_tables, halves}
 use Rattle.qm_proto.specs.Model.Schedules.{replay}
 use Rattle.qm_machine.specs.declared.Halt.{Halt}
@@ -17,14 +17,14 @@ use Rattle.qm_machine.specs.Tries.{CanTry, IsTriable}
 use Rattle.qm_machine.proofs.Counts.{line_counted}
 use Rattle.qm_machine.proofs.RowsRead.{triable_next}
 use Rattle.qm_machine.proofs.Starts.{kept_size}
-use Rattle.qm_runs.proofs.Tables.NextEvents.{row_is, line_is, line_next}
-use Rattle.qm_runs.proofs.Tables.Counting.{event_where_held, schedule_few, schedule_more, event_total_few, letters_few, halvings_few, made_few}
-use Rattle.qm_runs.proofs.Tables.Mays.{HasRoom, asks, may_line}
-use Rattle.qm_runs.proofs.Tables.EventRooms.{room_for_line}
-use Rattle.qm_runs.proofs.Tables.Standing.{well, well_next, well_roomy}
-use Rattle.qm_runs.specs.Tables.Well.{IsWell}
+use Rattle.qm_safety.proofs.Tables.NextEvents.{row_is, line_is, line_next}
+use Rattle.qm_proto.proofs.Counting.{event_where_held, schedule_few, schedule_more, event_total_few, letters_few, halvings_few, made_few}
+use Rattle.qm_safety.proofs.Tables.Mays.{HasRoom, asks, may_line}
+use Rattle.qm_safety.proofs.Tables.EventRooms.{room_for_line}
+use Rattle.qm_safety.proofs.Tables.Standing.{well, well_next, well_roomy}
+use Rattle.qm_safety.specs.Tables.Well.{IsWell}
 
-module _ (p : Programs) (rs : List ℕ) (h : Option Halt) (f : Facts) (room_left : ℕ) (kept : IsKept p rs h f room_left) where
+module _ {text : List ℕ} {p : Programs} {rs : List ℕ} {h : Option Halt} {f : Facts} {room_left : ℕ} (kept : IsKept text p rs h f room_left) where
   well_here : IsWell p f.tables
   well_here = subst (IsWell p) (sym kept.tables) (well p kept.ready kept.in_range rs kept.legal)
 
@@ -51,11 +51,11 @@ module _ (p : Programs) (rs : List ℕ) (h : Option Halt) (f : Facts) (room_left
         let room = room_for_line p t r kept.ready kept.in_range well_here known able f.store.live distinct (λ v c. (kept.sound.live v).0 c) here in
         let wires : asks (list_of w.acts) ≤ room_of f = omega (arith, room, kept.wires) in
         let may = may_line p t r kept.ready kept.in_range well_here known (limits_of f) (has_room r) i here.s w here.next here.line wires in
-        let fit : (k : ℕ) → k < length p.ranks → (all_done r (list_of w.acts) t).held k ≤ size_at f.sizes k = λ k below.
+        let fit : (k : ℕ) → k < length p.ranks → (after_acts r (list_of w.acts) t).held k ≤ size_at f.sizes k = λ k below.
         let after : halves (next_tables p t r) k ≤ (rank_of p k).buffer =
         (well_roomy p (next_tables p t r) kept.in_range (well_next p t r kept.ready kept.in_range well_here known able)).halves_few k below in
         let same = ap (λ (u : Tables). halves u k) (line_is p t r here) in
-        omega (arith, after, same, kept_size p rs h f room_left kept k below) in
+        omega (arith, after, same, kept_size kept k below) in
         let same : w ≡ row = same_Some w row (sym (row_is p t r i here.s here.next ∙ here.line) ∙ is) in
         let counted = line_counted p t r (length p.ranks) (limits_of f) f.sizes well_here.counted known kept.ranks i here.s w here.line may.0 fit in
         subst (CanTry f r) same

@@ -13,8 +13,8 @@ use Rattle.qm_check.specs.Messages.{lane_sends}
 use Rattle.qm_proto.specs.Model.State.{Tables, with_part}
 use Rattle.qm_proto.specs.declared.Act.{Act}
 use Rattle.qm_proto.specs.declared.Act.TheVariants.{Twin, NearOut, FarOut, Settle}
-use Rattle.qm_proto.specs.Model.Acts.{done, more_at, all_done, all_letters}
-use Rattle.qm_proto.specs.Model.Runs.{moved_on}
+use Rattle.qm_proto.specs.Model.Acts.{after_act, more_at, after_acts, acts_letters}
+use Rattle.qm_proto.specs.Model.Runs.{part_after_event}
 use Rattle.qm_proto.specs.Model.Schedules.{tables_at_start}
 use Rattle.qm_proto.specs.Model.Places.{IsPlaced}
 use Rattle.qm_proto.specs.May.{Limits, AllMay, limits_after_all}
@@ -75,7 +75,7 @@ MayCount sizes r _ held = Unit {0}
 -- so it is for each of these acts, one after another
 abbrev pub AllMayCount : List ℕ → ℕ → List Act → Tables → Type 0
 AllMayCount sizes r [] t = Unit {0}
-AllMayCount sizes r (a ∷ acts) t = MayCount sizes r a t.held × AllMayCount sizes r acts (done r a t)
+AllMayCount sizes r (a ∷ acts) t = MayCount sizes r a t.held × AllMayCount sizes r acts (after_act r a t)
 
 -- ---- acts
 -- the body is sound, and rank r may do the acts
@@ -88,18 +88,18 @@ pub record Can (f : Facts) (r : ℕ) (acts : List Act) : Type 0 where
 -- rank r has done the acts: the tables are the model's, the store stands for the circuit with their letters, and
 -- the body is sound again
 pub record Did (f : Facts) (r : ℕ) (acts : List Act) (g : Facts) : Type 0 where
-  pub tables : g.tables ≡ all_done r acts f.tables
-  pub stands : (c : Circuit) → StandsFor f.store c → StandsFor g.store (c ++ all_letters r acts f.tables)
+  pub tables : g.tables ≡ after_acts r acts f.tables
+  pub stands : (c : Circuit) → StandsFor f.store c → StandsFor g.store (c ++ acts_letters r acts f.tables)
   pub sound : IsSound g
   pub limits : limits_of g ≡ limits_after_all acts (limits_of f)
   pub capacity : g.places.capacity ≡ f.places.capacity
   pub sizes : g.sizes ≡ f.sizes
-  pub letters : g.letters ≡ f.letters + length (all_letters r acts f.tables)
-  pub paulis : g.paulis ≡ f.paulis + count_by is_pauli (all_letters r acts f.tables)
+  pub letters : g.letters ≡ f.letters + length (acts_letters r acts f.tables)
+  pub paulis : g.paulis ≡ f.paulis + count_by is_pauli (acts_letters r acts f.tables)
 
 -- rank r stands at its next event, where its instruction has so many, and nothing else has changed
 abbrev pub moved : Facts → ℕ → ℕ → Facts
-moved f r n = record f { tables = with_part f.tables r (moved_on n (f.tables.parts r)) }
+moved f r n = record f { tables = with_part f.tables r (part_after_event n (f.tables.parts r)) }
 
 -- a body before the first event of these programs, over a store: nothing has a place, as many wires may have one as the programs' slots
 -- and buffers hold, and each lane has room for its sends

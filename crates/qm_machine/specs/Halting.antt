@@ -4,7 +4,7 @@ use Rattle.qm_denot.specs.Stores.{Store}
 use Rattle.qm_proto.specs.declared.Cause.{Cause}
 use Rattle.qm_proto.specs.declared.Event.TheVariants as event
 use Rattle.qm_proto.specs.Model.Runs.{row_next}
-use Rattle.qm_runs.specs.Following.Deciding.{outcomes_done}
+use Rattle.qm_simulation.specs.Following.Deciding.{outcomes_done}
 use Rattle.qm_machine.specs.declared.Halt.{Halt}
 use Rattle.qm_machine.specs.Keeps.{MachineView, state_of, event_of}
 

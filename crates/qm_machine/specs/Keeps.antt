@@ -1,5 +1,5 @@
 -- What a machine shows, what its type keeps, and what a step makes of it
-use Rattle.std.specs.Prelude.{◌≡◌, ◌≢◌, ℕ, ◌<◌, ◌≤◌, ◌↔◌, ◌⊎◌, true, false, List, [], ◌∷◌, ◌++◌, Option, Some, None, length, count_by, Contains}
+use Rattle.std.specs.Prelude.{◌≡◌, ◌≢◌, ℕ, ◌<◌, ◌≤◌, ◌↔◌, ◌⊎◌, true, false, List, [], ◌∷◌, ◌++◌, Option, Some, None, Ok, length, count_by, Contains}
 use Rattle.qm_denot.specs.declared.Wire.{Wire}
 use Rattle.qm_denot.specs.Stores.{Store, StandsFor}
 use Rattle.qm_limits.specs.declared.TheConstants.{MOST_EVENTS}
@@ -7,6 +7,7 @@ use Rattle.qm_instr.specs.declared.Lane.{Lane}
 use Rattle.qm_instr.specs.Programs.{Programs, IsInRange}
 use Rattle.qm_check.specs.Checks.{IsReady, capacity_of}
 use Rattle.qm_check.specs.Messages.{lane_sends}
+use Rattle.qm_expand.specs.Reading.{Reads}
 use Rattle.qm_proto.specs.declared.Cause.{Cause}
 use Rattle.qm_proto.specs.declared.Cause.TheVariants as cause
 use Rattle.qm_proto.specs.declared.Event.{Event}
@@ -18,11 +19,11 @@ use Rattle.qm_proto.specs.Model.Runs.{row_next, enabled, has_event, IsRefused}
 use Rattle.qm_proto.specs.Model.Schedules.{replay, IsLegal, IsStuck, IsLowestLeft, MayStep, AllEnded}
 use Rattle.qm_proto.specs.Model.Places.{IsPlaced}
 use Rattle.qm_proto.specs.Model.Tidy.{IsTidy}
-use Rattle.qm_runs.specs.Following.Simulation.{Simulates}
-use Rattle.qm_runs.specs.Headline.{ComesToOne}
-use Rattle.qm_runs.specs.Safety.States.{IsSafe}
-use Rattle.qm_runs.specs.Tables.Totals.{event_total}
-use Rattle.qm_runs.specs.Weighing.Weights.{IsWeighed}
+use Rattle.qm_simulation.specs.Following.Simulation.{Simulates}
+use Rattle.qm_simulation.specs.Headline.{ComesToOne}
+use Rattle.qm_safety.specs.Safety.States.{IsSafe}
+use Rattle.qm_proto.specs.Model.Totals.{event_total}
+use Rattle.qm_simulation.specs.Weighing.Weights.{IsWeighed}
 use Rattle.qm_machine.specs.declared.Halt.{Halt}
 use Rattle.qm_machine.specs.declared.State as answer
 use Rattle.qm_machine.specs.declared.State.TheVariants as state
@@ -32,8 +33,9 @@ use Rattle.qm_machine.specs.declared.Why.{Why}
 use Rattle.qm_machine.specs.declared.Why.TheVariants.{LaneEmpty, NoRoom, PartnerElsewhere}
 use Rattle.qm_machine.specs.Facts.{Facts, IsSound, is_pauli, sizes_of}
 
--- the programs, the schedule so far, the halt where a step halted the machine, and the store
+-- the text, its programs, the schedule so far, the halt where a step halted the machine, and the store
 pub record MachineView (A : Type 0) : Type 0 where
+  pub text : List ℕ
   pub programs : Programs
   pub schedule : List ℕ
   pub halted : Option Halt
@@ -69,11 +71,12 @@ MayHalt p schedule (Some h) = HaltsAt p schedule h
 abbrev pub halt_of : ℕ → List ℕ → Cause → Halt
 halt_of r schedule c = record { rank = r; turns = length schedule; cause = c }
 
--- what every machine keeps: its programs have no fault, its schedule is legal, its store stands for the circuit of the
--- schedule's replay and its live wires are those that have a place there, its state is safe, and a halt stands at the schedule's end.
--- The schedule is simulated by its ideal run; its circuit is not zero, and each outcome of a protocol tape halves its weight; and where no
--- rank has an event left, it comes to the one circuit of the programs
+-- what every machine keeps: its programs are the reading of its text, and have no fault; its schedule is legal, its store stands for the
+-- circuit of the schedule's replay and its live wires are those that have a place there, its state is safe, and a halt stands at the
+-- schedule's end. The schedule is simulated by its ideal run; its circuit is not zero, and each outcome of a protocol tape halves its
+-- weight; and where no rank has an event left, it comes to the one circuit of the programs
 pub record Keeps {A : Type 0} (store : A → Store) (m : MachineView A) : Type 0 where
+  pub reads : Reads m.text (Ok m.programs)
   pub ready : IsReady m.programs
   pub in_range : IsInRange m.programs
   pub legal : IsLegal m.programs m.schedule
@@ -108,8 +111,9 @@ why_of (Some w) = lacking w.rule
 
 -- ---- what a step answers
 
--- the same programs, schedule, halt and contents of the store
+-- the same text, programs, schedule, halt and contents of the store
 pub record IsSame {A : Type 0} (store : A → Store) (m n : MachineView A) : Type 0 where
+  pub text : n.text ≡ m.text
   pub programs : n.programs ≡ m.programs
   pub schedule : n.schedule ≡ m.schedule
   pub halted : n.halted ≡ m.halted
@@ -120,6 +124,7 @@ pub record StepDid {A : Type 0} (store : A → Store) (m : MachineView A) (r : �
   pub running : m.halted ≡ None
   pub may : MayStep m.programs (state_of m) r
   pub event_so : event_of (row_next m.programs (state_of m).tables r) ≡ Some event
+  pub text : n.text ≡ m.text
   pub programs : n.programs ≡ m.programs
   pub schedule : n.schedule ≡ m.schedule ++ r ∷ []
   pub short : length n.schedule ≤ MOST_EVENTS
@@ -201,8 +206,10 @@ StateIs m (state.Halted h) = m.halted ≡ Some h
 
 -- ---- how a machine is kept
 
--- the body is the schedule's replay, and there is room for every entry that the schedule may have
-pub record IsKept (p : Programs) (schedule : List ℕ) (h : Option Halt) (f : Facts) (room : ℕ) : Type 0 where
+-- the programs are the reading of the text, the body is the schedule's replay, and there is room for every entry that the schedule may
+-- have
+pub record IsKept (text : List ℕ) (p : Programs) (schedule : List ℕ) (h : Option Halt) (f : Facts) (room : ℕ) : Type 0 where
+  pub reads : Reads text (Ok p)
   pub ready : IsReady p
   pub in_range : IsInRange p
   pub legal : IsLegal p schedule

@@ -11,7 +11,7 @@ use Rattle.qm_buffers.specs.Halves.{buffer_at}
 use Rattle.qm_owner.specs.declared.Place.{Place}
 use Rattle.qm_owner.specs.declared.Place.TheVariants.{Slot, Near, Far}
 use Rattle.qm_owner.specs.Places.{wire_at, wires_at}
-use Rattle.qm_mail.specs.Mails.{Line, parcels_on, sends_on}
+use Rattle.qm_mail.specs.Mails.{MailLane, parcels_on, sends_on}
 use Rattle.qm_denot.specs.declared.Parcel.{Parcel}
 use Rattle.qm_proto.specs.Model.State.{Part, Tables, with_lane}
 use Rattle.qm_proto.specs.declared.Act.{Act}
@@ -78,7 +78,7 @@ pub record MailView : Type 0 where
   pub parcels : Lane → ℕ
 
 -- what lanes show: their parcels, and room on each for as many as are sent
-abbrev pub mail_of : List Line → MailView
+abbrev pub mail_of : List MailLane → MailView
 mail_of m = record { lanes = λ a. parcels_on m a; parcels = λ a. sends_on m a }
 
 -- other parcels on a lane

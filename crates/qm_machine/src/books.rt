@@ -23,7 +23,7 @@ pub(crate) struct Books {
 }
 
 impl Books {
-    ghost use Rattle.qm_bits.specs.Numbers.{number_of_bits};
+    ghost use Rattle.qm_instr.specs.Bits.{number_of_bits};
     ghost use Rattle.qm_machine.specs.Views.{tables, rank_count, sizes, part_of};
 
     /// A rank.

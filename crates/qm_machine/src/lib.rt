@@ -1,7 +1,7 @@
 //! The machine: the programs of all ranks at work on one store, one event at a time, in whatever order the ranks are stepped.
 //!
-//! A machine is seen as its programs, its schedule so far, its halt, and what its store contains. What it keeps is the model's replay of
-//! that schedule.
+//! A machine is seen as its text, the programs that are the reading of it, its schedule so far, its halt, and what its store contains.
+//! What it keeps is the model's replay of that schedule.
 #![tactic(auto)]
 
 mod attempt;
@@ -17,18 +17,6 @@ mod rules;
 
 pub use machine::Machine;
 pub use qm_proto::Cause;
-
-#[cfg(test)]
-mod fixtures;
-#[cfg(test)]
-mod halts;
-#[cfg(test)]
-mod instructions;
-#[cfg(test)]
-mod runs;
-#[cfg(test)]
-mod tests;
-
 use qm_proto::Event;
 
 /// What a step answers.

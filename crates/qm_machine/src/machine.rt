@@ -1,14 +1,15 @@
-//! The machine: a body, the schedule that it has followed, and the halt that it has come to.
-ghost use Rattle.std.specs.Prelude.{◌≡◌, ◌<◌, ◌≤◌, true, false, [], length, count_by, Some, None, IfOk};
+//! The machine: a text with its programs, a body, the schedule that it has followed, and the halt that it has come to.
+ghost use Rattle.std.specs.Prelude.{◌≡◌, ◌<◌, ◌≤◌, true, false, [], length, count_by, Some, None, Ok, IfOk};
 ghost use Rattle.qm_denot.specs.Stores.{StandsFor};
 ghost use Rattle.qm_instr.specs.Programs.{rank_of};
 ghost use Rattle.qm_check.specs.Checks.{capacity_of};
+ghost use Rattle.qm_expand.specs.Reading.{Reads};
 ghost use Rattle.qm_proto.specs.Model.Runs.{halves};
 ghost use Rattle.qm_proto.specs.Model.Schedules.{AllEnded, RendezvousEnds};
 ghost use Rattle.qm_machine.specs.Facts.{is_pauli};
 ghost use Rattle.qm_machine.specs.Halting.{HaltsFor, HasSmallExponent, IsAtMeasure};
 ghost use Rattle.qm_machine.specs.Keeps.{Keeps, StepIs, StateIs, HaltsAt, HasLeft, MayGo, MustWait, halt_of, state_of};
-ghost use Rattle.qm_bits.specs.Numbers.{number_of_bits};
+ghost use Rattle.qm_instr.specs.Bits.{number_of_bits};
 
 use crate::attempt::attempt;
 use crate::body::Body;
@@ -21,12 +22,13 @@ use qm_proto::{Cause, Row};
 use std::alloc::{AllocError, Global};
 use std::marker::Model;
 
-/// A machine: ready programs, the schedule so far, the halt if there is one, and the state.
+/// A machine: a text, its programs, the schedule so far, the halt if there is one, and the state.
 ///
-/// Its state is the model's replay of the schedule, which is legal; its store stands for the circuit of that replay, and the live wires
+/// The programs are the reading of the text. Its state is the model's replay of the schedule, which is legal; its store stands for the circuit of that replay, and the live wires
 /// are exactly those that have a place in it; a halt stands at the schedule's end.
 #[derive(Drop)]
 pub struct Machine<A: Amps> {
+    text: Vec<u8>,
     ready: Ready,
     schedule: Vec<u32>,
     halted: Option<Halt>,
@@ -41,6 +43,7 @@ impl<A: Amps> Model for Machine<A> {
     ghost Value = { MachineView A };
 
     ghost view = { λ m. record {
+      text = m.text.items;
       programs = m.ready;
       schedule = m.schedule.items;
       halted = m.halted;
@@ -48,19 +51,26 @@ impl<A: Amps> Model for Machine<A> {
     } };
 
     ghost invariant = { λ m. let room = vec_capacity m.schedule in
-        IsKept m.ready m.schedule.items m.halted (facts A.store m.body) room };
+        IsKept m.text.items m.ready m.schedule.items m.halted (facts A.store m.body) room };
 }
 
 impl<A: Amps> Machine<A> {
-    /// A machine before its first event, over a store that stands for the empty circuit.
+    /// A machine before its first event, for a text and its programs, over a store that stands for the empty circuit.
     ///
     /// The store has no live wire, and room for as many as the programs' slots and buffers. All memory is taken here; `AllocError` comes
     /// from the allocator alone.
-    pub fn start(alloc: Global, ready: Ready, amps: A) -> Result<Machine<A>, AllocError>
+    pub fn start(
+        alloc: Global,
+        text: Vec<u8>,
+        ready: Ready,
+        amps: A,
+    ) -> Result<Machine<A>, AllocError>
+        requires read { Reads text.items (Ok ready) }
         requires stands { StandsFor (A.store amps) [] }
         requires live { (A.store amps).live ≡ [] }
         requires room { capacity_of ready ≤ (A.store amps).capacity }
         ensures { IfOk result (λ m. m ≡ record {
+          text = text.items;
           programs = ready;
           schedule = [];
           halted = None;
@@ -70,6 +80,7 @@ impl<A: Amps> Machine<A> {
         let body = Body::start(alloc, &ready, amps)?;
         let schedule = Vec::with_capacity(alloc, ready.events() as usize)?;
         Ok(Machine {
+            text,
             ready,
             schedule,
             halted: None,
@@ -96,6 +107,7 @@ impl<A: Amps> Machine<A> {
     /// The answer where a rank's next event isn't enabled.
     fn wait(&mut self, rank: u16, why: Why) -> Step
         requires { MustWait self.old rank why }
+        ensures text { self.new.text ≡ self.old.text }
         ensures programs { self.new.programs ≡ self.old.programs }
         ensures step { StepIs A.store self.old rank result self.new }
     {
@@ -111,6 +123,7 @@ impl<A: Amps> Machine<A> {
     fn go(&mut self, rank: u16, row: Row) -> Step
         requires able { A.able }
         requires go { MayGo self.old rank row }
+        ensures text { self.new.text ≡ self.old.text }
         ensures programs { self.new.programs ≡ self.old.programs }
         ensures step { StepIs A.store self.old rank result self.new }
     {
@@ -137,6 +150,7 @@ impl<A: Amps> Machine<A> {
     pub fn step(&mut self, rank: u32) -> Step
         requires able { A.able }
         requires known { rank < length self.old.programs.ranks }
+        ensures text { self.new.text ≡ self.old.text }
         ensures programs { self.new.programs ≡ self.old.programs }
         ensures step { StepIs A.store self.old rank result self.new }
         ensures overflow { HasSmallExponent A.store self.old
@@ -198,6 +212,13 @@ impl<A: Amps> Machine<A> {
         ensures { result.now ≡ self.now.amps }
     {
         self.body.amps()
+    }
+
+    /// The text, of which the programs are the reading.
+    pub fn text(&self) -> &[u8]
+        ensures { result.now ≡ self.now.text }
+    {
+        &self.text
     }
 
     /// The programs.

@@ -2,7 +2,7 @@
 ghost use Rattle.std.specs.Prelude.{◌≡◌, ◌<◌, slice_get, false};
 ghost use Rattle.qm_instr.specs.Programs.{Programs};
 ghost use Rattle.qm_proto.specs.Model.State.{wire_in, near_last, far_made, front, protocol_next, wire_of};
-ghost use Rattle.qm_proto.specs.Model.Rows.{row, rows, half, letter, few_if, source_wire};
+ghost use Rattle.qm_proto.specs.Model.Rows.{row, rows, half_parcel, letter, few_if, source_wire};
 ghost use Rattle.qm_machine.specs.Reads.{IsRank};
 ghost use Rattle.qm_machine.specs.Views.{tables, rank_count};
 
@@ -57,7 +57,7 @@ impl Message {
 fn pair_row(books: &Books, rank: u16, lane: Lane) -> Row
     requires { rank < rank_count books.now }
     ensures { let f = far_made (tables books.now) rank in
-        let acts = Few.Two (Act.Twin lane.to) (Act.Posts lane (half f)) in
+        let acts = Few.Two (Act.Twin lane.to) (Act.Posts lane (half_parcel f)) in
         result ≡ row Event.Pair (Rule.PairRoom lane) Few.Empty acts }
 {
     let parcel = half(books.far_made(rank));

@@ -1,7 +1,7 @@
 //! What a parcel carries.
 ghost use Rattle.std.specs.Prelude.{◌≡◌};
 ghost use Rattle.qm_proto.specs.Model.State.{wire_of, first_bit, second_bit};
-ghost use Rattle.qm_proto.specs.Model.Rows.{half, told};
+ghost use Rattle.qm_proto.specs.Model.Rows.{half_parcel, bit_parcel};
 
 use qm_denot::Wire;
 use qm_proto::Parcel;
@@ -45,7 +45,7 @@ pub(crate) fn second_bit(parcel: Parcel) -> bool
 
 /// A parcel that carries the half `f`.
 pub(crate) fn half(f: Wire) -> Parcel
-    ensures { result ≡ half f }
+    ensures { result ≡ half_parcel f }
 {
     Parcel {
         wire: Some(f),
@@ -55,7 +55,7 @@ pub(crate) fn half(f: Wire) -> Parcel
 
 /// A parcel that carries a bit.
 pub(crate) fn told(m: bool) -> Parcel
-    ensures { result ≡ told m }
+    ensures { result ≡ bit_parcel m }
 {
     Parcel {
         wire: None,

@@ -1,5 +1,5 @@
 //! One rank of a machine, but for its wires: how far it is in its program, its bits and its tapes.
-use qm_bits::{BITS, number_of_bits};
+use qm_instr::bits::{BITS, number_of_bits};
 use qm_limits::MOST_OUTCOMES;
 use qm_proto::Parcel;
 use qm_tape::Tape;
@@ -20,9 +20,9 @@ pub(crate) struct Rank {
 
 impl Rank {
     ghost use Rattle.std.specs.Prelude.{◌≡◌, ◌≤◌, ◌<◌, ◌+◌, ◌^◌, length, drop, slice_index_or, slice_set, false, IfOk};
-    ghost use Rattle.qm_proto.specs.Model.Acts.{counted};
-    ghost use Rattle.qm_proto.specs.Model.Runs.{moved_on};
-    ghost use Rattle.qm_bits.specs.Numbers.{number_of_bits};
+    ghost use Rattle.qm_proto.specs.Model.Acts.{with_one_counted};
+    ghost use Rattle.qm_proto.specs.Model.Runs.{part_after_event};
+    ghost use Rattle.qm_instr.specs.Bits.{number_of_bits};
     ghost use Rattle.qm_machine.specs.Views.{part_of, part_with};
 
     /// A rank before its first event, with these tapes. `AllocError` comes from the allocator alone.
@@ -115,7 +115,7 @@ impl Rank {
     /// Counts a wire, or a pair.
     pub(crate) fn count_wire(&mut self)
         requires { (part_of self.old).made + 1 < 2 ^ 32 }
-        ensures { part_of self.new ≡ counted (part_of self.old) }
+        ensures { part_of self.new ≡ with_one_counted (part_of self.old) }
     {
         self.made += 1;
     }
@@ -167,7 +167,7 @@ impl Rank {
     pub(crate) fn move_on(&mut self, events: u32)
         requires at { (part_of self.old).at + 1 < 2 ^ 32 }
         requires stage { (part_of self.old).stage + 1 < 2 ^ 32 }
-        ensures { part_of self.new ≡ moved_on events (part_of self.old) }
+        ensures { part_of self.new ≡ part_after_event events (part_of self.old) }
     {
         if self.stage + 1 < events {
             self.stage += 1;

@@ -5,7 +5,7 @@ ghost use Rattle.qm_instr.specs.declared.Kind.TheVariants as kind;
 ghost use Rattle.qm_check.specs.Operands.{partner_of};
 ghost use Rattle.qm_denot.specs.Protocols.{differing};
 ghost use Rattle.qm_proto.specs.Model.State.{wire_in, bit_of, own_next, front, first_bit};
-ghost use Rattle.qm_proto.specs.Model.Rows.{row, rows, told, letter, letter_checks, one_letter, gate_letter, few_if};
+ghost use Rattle.qm_proto.specs.Model.Rows.{row, rows, bit_parcel, letter, letter_checks, one_letter, gate_letter, few_if};
 ghost use Rattle.qm_proto.specs.Model.Runs.{row_next};
 ghost use Rattle.qm_machine.specs.Reads.{IsRank, IsReadyRank};
 ghost use Rattle.qm_machine.specs.Views.{tables, rank_count};
@@ -128,7 +128,7 @@ fn xor_row(books: &Books, rank: u16, b: u8, c: u8) -> Row
 fn send_row(books: &Books, rank: u16, b: u8, to: u16, tag: u16) -> Row
     requires { rank < rank_count books.now }
     ensures { let a = lane rank to kind.Bit tag in
-        let acts = Few.One (Act.Posts a (told (bit_of (tables books.now) rank b))) in
+        let acts = Few.One (Act.Posts a (bit_parcel (bit_of (tables books.now) rank b))) in
         result ≡ row Event.SendBit Rule.Always Few.Empty acts }
 {
     let lane = lane(rank, to, Kind::Bit, tag);

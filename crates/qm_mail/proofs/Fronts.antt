@@ -5,7 +5,8 @@ use Rattle.qm_denot.specs.declared.Parcel.{Parcel}
 use Rattle.qm_mail.specs.Mails.{HasBits}
 
 -- what a look at the front finds, where there is a parcel
-pub front_read : (xs : List Parcel) (n : ℕ) (o : Option (Bor Parcel)) → n ≡ length xs → (IsSome o ↔ (0 < n)) → IfSome o (λ x. x.now ≡ slice_index_or xs 0 x.now)
+pub front_read : (xs : List Parcel) (n : ℕ) (o : Option (Bor Parcel)) → n ≡ length xs
+    → (IsSome o ↔ (0 < n)) → IfSome o (λ x. x.now ≡ slice_index_or xs 0 x.now)
     → option_copied o ≡ slice_get xs 0
 front_read [] n None long some read = refl
 front_read [] n (Some x) long some read = let more : 0 < n = some.0 refl in absurd (omega arith)

@@ -1,5 +1,5 @@
-pub mod Shown
-pub mod Fronts
-pub mod Filling
-pub mod Starting
+mod Shown
+mod Fronts
+mod Filling
+mod Starting
 pub mod Lanes

@@ -4,7 +4,7 @@
 ghost use Rattle.std.specs.Prelude.{◌≡◌, ◌<◌, ◌≤◌, ◌++◌, ◌∷◌, [], Some, length, map, drop, slice_get, nat_eq, IfOk};
 ghost use Rattle.std.specs.VecDeque.{deque_capacity};
 ghost use Rattle.qm_denot.specs.Parcels.{filled, IsFillable};
-ghost use Rattle.qm_mail.specs.Mails.{parcels_on, sends_on, with_parcels, empty_line, AreRising, HasBits};
+ghost use Rattle.qm_mail.specs.Mails.{parcels_on, sends_on, with_parcels, empty_lane, AreRising, HasBits};
 
 pub use qm_check::LaneCount;
 pub use qm_denot::Parcel;
@@ -12,9 +12,6 @@ use qm_instr::Lane;
 use std::alloc::{AllocError, Global};
 use std::collections::{BTreeMap, VecDeque};
 use std::marker::Model;
-
-#[cfg(test)]
-mod tests;
 
 /// The parcels of one lane, and how many are sent on it in all.
 #[derive(Drop)]
@@ -32,13 +29,13 @@ pub struct Mail {
 
 impl Model for Mail {
     ghost use Rattle.std.specs.Prelude.{List};
-    ghost use Rattle.qm_mail.specs.Mails.{Line};
+    ghost use Rattle.qm_mail.specs.Mails.{MailLane};
 
-    ghost Value = { List Line };
+    ghost Value = { List MailLane };
 
-    ghost use Rattle.qm_mail.specs.Queues.{lines_of};
+    ghost use Rattle.qm_mail.specs.Queues.{lanes_shown};
 
-    ghost view = { λ m. lines_of m.lanes };
+    ghost view = { λ m. lanes_shown m.lanes };
 }
 
 impl Mail {
@@ -46,7 +43,7 @@ impl Mail {
     /// allocator alone.
     pub fn start(alloc: Global, lanes: &[LaneCount]) -> Result<Mail, AllocError>
         requires { AreRising lanes.now }
-        ensures { IfOk result (λ m. m ≡ map empty_line lanes.now) }
+        ensures { IfOk result (λ m. m ≡ map empty_lane lanes.now) }
     {
         let mut all = BTreeMap::new(alloc);
         for count in lanes {

@@ -1,5 +1,5 @@
-pub mod Searching
+mod Searching
 pub mod Placing
-pub mod Table
-pub mod Keeping
+mod Table
+mod Keeping
 pub mod Standing

@@ -33,13 +33,10 @@ place_itself (Slot r q) = and_from (nat_eq r r) (nat_eq q q) (eq-eqb r r refl) (
 place_itself (Near r) = eq-eqb r r refl
 place_itself (Far r) = eq-eqb r r refl
 
-shut : (b : Bool) {A : Type 0} (x : A) (o : Option A) → cond b (Some x) o ≡ None → (b ≡ false) × (o ≡ None)
+shut : (b : Bool) {A : Type 0} (x : A) (o : Option A) → cond b (Some x) o ≡ None
+    → (b ≡ false) × (o ≡ None)
 shut true x o e = cc
 shut false x o e = (refl, e)
-
-some_or : (b : Bool) {A : Type 0} (x : A) (o : Option A) → IsSome (cond b (Some x) o) → b ≡ false → IsSome o
-some_or true x o h e = cc
-some_or false x o h e = h
 
 -- ---- a wire that goes
 -- it has no place any more
@@ -59,7 +56,8 @@ shorter (e ∷ es) w =
     elim (is_wire e.0 w) as (λ b. length (cond b (without es w) (e ∷ without es w)) ≤ suc (length es)) [ true ↦ omega arith | false ↦ omega arith ]
 
 -- and shorter where the wire had a place
-pub shortened : (es : List (Wire × Place)) (w : Wire) → IsSome (place_of es w) → length (without es w) < length es
+pub shortened : (es : List (Wire × Place)) (w : Wire) → IsSome (place_of es w)
+    → length (without es w) < length es
 shortened [] w some = cc
 shortened (e ∷ es) w some =
     let rest : length (without es w) ≤ length es = shorter es w in
@@ -68,7 +66,8 @@ shortened (e ∷ es) w some =
       | false ↦ λ had. let less : length (without es w) < length es = shortened es w had in omega arith
     ] some
 
-wires-without : (es : List (Wire × Place)) (w : Wire) → wires_in (without es w) ≡ without_wire (wires_in es) w
+wires-without : (es : List (Wire × Place)) (w : Wire)
+    → wires_in (without es w) ≡ without_wire (wires_in es) w
 wires-without [] w = refl
 wires-without (e ∷ es) w =
     elim (is_wire e.0 w) as (λ b. wires_in (cond b (without es w) (e ∷ without es w)) ≡ cond b (without_wire (wires_in es) w) (e.0 ∷ without_wire (wires_in es) w)) [
@@ -77,7 +76,8 @@ wires-without (e ∷ es) w =
     ]
 
 -- a place that has no wire has none then
-empty_without : (es : List (Wire × Place)) (w : Wire) (p : Place) → wire_at es p ≡ None → wire_at (without es w) p ≡ None
+empty_without : (es : List (Wire × Place)) (w : Wire) (p : Place) → wire_at es p ≡ None
+    → wire_at (without es w) p ≡ None
 empty_without [] w p empty = refl
 empty_without (e ∷ es) w p empty =
     let parts = shut (is_place e.1 p) e.0 (wire_at es p) empty in
@@ -86,7 +86,8 @@ empty_without (e ∷ es) w p empty =
       | false ↦ ap (λ b. cond b (Some e.0) (wire_at (without es w) p)) parts.0 ∙ empty_without es w p parts.1
     ]
 
-pub free_without : (es : List (Wire × Place)) (w : Wire) (p : Place) → IsFree es p → IsFree (without es w) p
+pub free_without : (es : List (Wire × Place)) (w : Wire) (p : Place) → IsFree es p
+    → IsFree (without es w) p
 free_without es w (Slot r q) free = empty_without es w (Slot r q) free
 free_without es w (Near r) free = tt
 free_without es w (Far r) free = tt
@@ -99,7 +100,8 @@ lone_without (e ∷ es) w lone =
       | false ↦ (free_without es w e.1 lone.0, lone_without es w lone.1)
     ]
 
-pub placing_without : (es : List (Wire × Place)) (w : Wire) → IsPlacing es → IsPlacing (without es w)
+pub placing_without : (es : List (Wire × Place)) (w : Wire) → IsPlacing es
+    → IsPlacing (without es w)
 placing_without es w h = record {
   wires = subst Distinct (sym (wires-without es w)) (Distinct-without_wire (wires_in es) w h.wires);
   slots = lone_without es w h.slots;
@@ -112,14 +114,17 @@ lacked (e ∷ es) w absent =
     let parts = shut (is_wire e.0 w) e.1 (place_of es w) absent in
     (λ same. let h : is_wire e.0 w ≡ true = subst (λ v. is_wire e.0 v ≡ true) same (is_wire_itself e.0) in let f : ⊥ = (let g = parts.0 in cc) in f, lacked es w parts.1)
 
-empty_with : (es : List (Wire × Place)) (w : Wire) (p k : Place) → wire_at es k ≡ None → is_place p k ≡ false → wire_at (es ++ (w, p) ∷ []) k ≡ None
+empty_with : (es : List (Wire × Place)) (w : Wire) (p k : Place) → wire_at es k ≡ None
+    → is_place p k ≡ false → wire_at (es ++ (w, p) ∷ []) k ≡ None
 empty_with [] w p k empty apart = ap (λ b. cond b (Some w) None) apart
 empty_with (e ∷ es) w p k empty apart =
     let parts = shut (is_place e.1 k) e.0 (wire_at es k) empty in
-    ap (λ b. cond b (Some e.0) (wire_at (es ++ (w, p) ∷ []) k)) parts.0 ∙ empty_with es w p k parts.1 apart
+    ap (λ b. cond b (Some e.0) (wire_at (es ++ (w, p) ∷ []) k)) parts.0
+    ∙ empty_with es w p k parts.1 apart
 
 -- the place of the entry is another than a place that is free behind it
-other_place : (e : Wire × Place) (es : List (Wire × Place)) (p : Place) (r q : ℕ) → IsFree (e ∷ es) p → e.1 ≡ Slot r q → is_place p (Slot r q) ≡ false
+other_place : (e : Wire × Place) (es : List (Wire × Place)) (p : Place) (r q : ℕ)
+    → IsFree (e ∷ es) p → e.1 ≡ Slot r q → is_place p (Slot r q) ≡ false
 other_place e es p r q free at =
     elim (is_place p (Slot r q)) as (λ b. is_place p (Slot r q) ≡ b → b ≡ false) [
       | true ↦ λ same.
@@ -132,23 +137,27 @@ other_place e es p r q free at =
       | false ↦ λ _. refl
     ] refl
 
-free_behind : (e : Wire × Place) (es : List (Wire × Place)) (p : Place) → IsFree (e ∷ es) p → IsFree es p
+free_behind : (e : Wire × Place) (es : List (Wire × Place)) (p : Place) → IsFree (e ∷ es) p
+    → IsFree es p
 free_behind e es (Slot r q) free = (shut (is_place e.1 (Slot r q)) e.0 (wire_at es (Slot r q)) free).1
 free_behind e es (Near r) free = tt
 free_behind e es (Far r) free = tt
 
-free_with : (e : Wire × Place) (es : List (Wire × Place)) (w : Wire) (p k : Place) → IsFree (e ∷ es) p → e.1 ≡ k → IsFree es k → IsFree (es ++ (w, p) ∷ []) k
+free_with : (e : Wire × Place) (es : List (Wire × Place)) (w : Wire) (p k : Place)
+    → IsFree (e ∷ es) p → e.1 ≡ k → IsFree es k → IsFree (es ++ (w, p) ∷ []) k
 free_with e es w p (Slot r q) free at own = empty_with es w p (Slot r q) own (other_place e es p r q free at)
 free_with e es w p (Near r) free at own = tt
 free_with e es w p (Far r) free at own = tt
 
-lone_with : (es : List (Wire × Place)) (w : Wire) (p : Place) → HasLoneSlots es → IsFree es p → HasLoneSlots (es ++ (w, p) ∷ [])
+lone_with : (es : List (Wire × Place)) (w : Wire) (p : Place) → HasLoneSlots es → IsFree es p
+    → HasLoneSlots (es ++ (w, p) ∷ [])
 lone_with [] w (Slot r q) lone free = (refl, tt)
 lone_with [] w (Near r) lone free = (tt, tt)
 lone_with [] w (Far r) lone free = (tt, tt)
 lone_with (e ∷ es) w p lone free = (free_with e es w p e.1 free refl lone.0, lone_with es w p lone.1 (free_behind e es p free))
 
-pub placing_with : (es : List (Wire × Place)) (w : Wire) (p : Place) → IsPlacing es → place_of es w ≡ None → IsFree es p → IsPlacing (es ++ (w, p) ∷ [])
+pub placing_with : (es : List (Wire × Place)) (w : Wire) (p : Place) → IsPlacing es
+    → place_of es w ≡ None → IsFree es p → IsPlacing (es ++ (w, p) ∷ [])
 placing_with es w p h absent free = record {
   wires = subst Distinct (sym (map_push (λ (e : Wire × Place). e.0) es (w, p))) (Distinct-push (wires_in es) w h.wires (lacked es w absent));
   slots = lone_with es w p h.slots free;
@@ -170,10 +179,12 @@ slot_with (e ∷ es) w p r q free =
 without_lacked : (es : List (Wire × Place)) (w : Wire) → Lacks (wires_in es) w → without es w ≡ es
 without_lacked [] w lacks = refl
 without_lacked (e ∷ es) w lacks =
-    ap (λ b. cond b (without es w) (e ∷ without es w)) (is_wire_other e.0 w lacks.0) ∙ ap (λ xs. e ∷ xs) (without_lacked es w lacks.1)
+    ap (λ b. cond b (without es w) (e ∷ without es w)) (is_wire_other e.0 w lacks.0)
+    ∙ ap (λ xs. e ∷ xs) (without_lacked es w lacks.1)
 
 -- the place of a wire has a wire
-pub taken : (es : List (Wire × Place)) (w : Wire) (p : Place) → place_of es w ≡ Some p → is_place p p ≡ true → IsSome (wire_at es p)
+pub taken : (es : List (Wire × Place)) (w : Wire) (p : Place) → place_of es w ≡ Some p
+    → is_place p p ≡ true → IsSome (wire_at es p)
 taken [] w p at itself = cc
 taken (e ∷ es) w p at itself =
     elim (is_wire e.0 w) as (λ b. cond b (Some e.1) (place_of es w) ≡ Some p → IsSome (cond (is_place e.1 p) (Some e.0) (wire_at es p))) [
@@ -191,13 +202,15 @@ first_gone e es r q free =
       | false ↦ λ _. refl
     ] refl
 
-exchanged : (s t : Bool) (x o : Option Wire) → (s ≡ true → t ≡ true → ⊥) → cond s x (cond t None o) ≡ cond t None (cond s x o)
+exchanged : (s t : Bool) (x o : Option Wire) → (s ≡ true → t ≡ true → ⊥)
+    → cond s x (cond t None o) ≡ cond t None (cond s x o)
 exchanged true true x o apart = absurd (apart refl refl)
 exchanged true false x o apart = refl
 exchanged false t x o apart = refl
 
 -- the place of a wire behind the first entry is no slot of that entry
-pub apart_from : (e : Wire × Place) (es : List (Wire × Place)) (w : Wire) (p : Place) (r q : ℕ) → IsFree es e.1 → place_of es w ≡ Some p
+pub apart_from : (e : Wire × Place) (es : List (Wire × Place)) (w : Wire) (p : Place) (r q : ℕ)
+    → IsFree es e.1 → place_of es w ≡ Some p
     → is_place e.1 (Slot r q) ≡ true → is_place p (Slot r q) ≡ true → ⊥
 apart_from e es w p r q free at here there =
     let empty : IsFree es (Slot r q) = subst (IsFree es) (same_place e.1 (Slot r q) here) free in
@@ -208,7 +221,8 @@ apart_from e es w p r q free at here there =
     let f : ⊥ = cc in f
 
 -- after a wire goes
-pub slot_without : (es : List (Wire × Place)) (w : Wire) (p : Place) (r q : ℕ) → IsPlacing es → place_of es w ≡ Some p
+pub slot_without : (es : List (Wire × Place)) (w : Wire) (p : Place) (r q : ℕ) → IsPlacing es
+    → place_of es w ≡ Some p
     → wire_at (without es w) (Slot r q) ≡ cond (is_place p (Slot r q)) None (wire_at es (Slot r q))
 slot_without [] w p r q h at = cc
 slot_without (e ∷ es) w p r q h at =

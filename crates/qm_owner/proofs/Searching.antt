@@ -15,21 +15,24 @@ next es i d w below =
     ∙ ap (λ k. cond (is_wire (slice_index_or es i d).0 w) (Some (slice_index_or es i d).1) (place_of (drop k es) w)) (sym longer)
 
 -- a wire that the next entry has
-pub found : (es : List (Wire × Place)) (i : ℕ) (d : Wire × Place) (w : Wire) → i < length es → code_wire (slice_index_or es i d).0 w ≡ true
+pub found : (es : List (Wire × Place)) (i : ℕ) (d : Wire × Place) (w : Wire) → i < length es
+    → code_wire (slice_index_or es i d).0 w ≡ true
     → Some (slice_index_or es i d).1 ≡ place_of (drop i es) w
 found es i d w below here =
     sym (next es i d w below
     ∙ ap (λ b. cond b (Some (slice_index_or es i d).1) (place_of (drop (i + 1) es) w)) (sym (code_wire-is_wire (slice_index_or es i d).0 w) ∙ here))
 
 -- a wire that the next entry doesn't have
-pub passed : (es : List (Wire × Place)) (i : ℕ) (d : Wire × Place) (w : Wire) → i < length es → code_wire (slice_index_or es i d).0 w ≡ false
+pub passed : (es : List (Wire × Place)) (i : ℕ) (d : Wire × Place) (w : Wire) → i < length es
+    → code_wire (slice_index_or es i d).0 w ≡ false
     → place_of (drop i es) w ≡ place_of (drop (i + 1) es) w
 passed es i d w below apart =
     next es i d w below
     ∙ ap (λ b. cond b (Some (slice_index_or es i d).1) (place_of (drop (i + 1) es) w)) (sym (code_wire-is_wire (slice_index_or es i d).0 w) ∙ apart)
 
 -- the entries of other wires
-pub without-filter : (es : List (Wire × Place)) (w : Wire) → filter (λ e. not (code_wire e.0 w)) es ≡ without es w
+pub without-filter : (es : List (Wire × Place)) (w : Wire)
+    → filter (λ e. not (code_wire e.0 w)) es ≡ without es w
 without-filter [] w = refl
 without-filter (e ∷ es) w =
     let rest = filter (λ e. not (code_wire e.0 w)) es in

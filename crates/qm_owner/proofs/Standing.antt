@@ -16,7 +16,8 @@ pushed : (c : Bool) (v : Wire) (xs ys : List Wire) → v ∷ cond c xs ys ≡ co
 pushed true v xs ys = refl
 pushed false v xs ys = refl
 
-pub at_with : (es : List (Wire × Place)) (w : Wire) (p k : Place) → wires_at (es ++ (w, p) ∷ []) k ≡ cond (is_place p k) (wires_at es k ++ w ∷ []) (wires_at es k)
+pub at_with : (es : List (Wire × Place)) (w : Wire) (p k : Place)
+    → wires_at (es ++ (w, p) ∷ []) k ≡ cond (is_place p k) (wires_at es k ++ w ∷ []) (wires_at es k)
 at_with [] w p k = refl
 at_with (e ∷ es) w p k =
     let rest = at_with es w p k in
@@ -27,7 +28,8 @@ at_with (e ∷ es) w p k =
     ]
 
 -- another wire has no place yet
-pub still_absent : (es : List (Wire × Place)) (w v : Wire) (p : Place) → place_of es v ≡ None → w ≢ v → place_of (es ++ (w, p) ∷ []) v ≡ None
+pub still_absent : (es : List (Wire × Place)) (w v : Wire) (p : Place) → place_of es v ≡ None
+    → w ≢ v → place_of (es ++ (w, p) ∷ []) v ≡ None
 still_absent [] w v p absent ne = ap (λ b. cond b (Some p) None) (is_wire_other w v ne)
 still_absent (e ∷ es) w v p absent ne =
     elim (is_wire e.0 v) as (λ b. cond b (Some e.1) (place_of es v) ≡ None → cond b (Some e.1) (place_of (es ++ (w, p) ∷ []) v) ≡ None) [
@@ -36,7 +38,8 @@ still_absent (e ∷ es) w v p absent ne =
     ] absent
 
 -- ---- a wire that goes
-pub at_without : (es : List (Wire × Place)) (w : Wire) (k : Place) → wires_at (without es w) k ≡ without_wire (wires_at es k) w
+pub at_without : (es : List (Wire × Place)) (w : Wire) (k : Place)
+    → wires_at (without es w) k ≡ without_wire (wires_at es k) w
 at_without [] w k = refl
 at_without (e ∷ es) w k =
     let less = without es w in
@@ -57,12 +60,14 @@ at_without (e ∷ es) w k =
 behind : (v w : Wire) (ws : List Wire) → Contains ws w → Contains (v ∷ ws) w
 behind v w ws (k, below, is) = (suc k, omega arith, is)
 
-perhaps_behind : (b : Bool) (v w : Wire) (ws : List Wire) → Contains ws w → Contains (cond b (v ∷ ws) ws) w
+perhaps_behind : (b : Bool) (v w : Wire) (ws : List Wire) → Contains ws w
+    → Contains (cond b (v ∷ ws) ws) w
 perhaps_behind true v w ws h = behind v w ws h
 perhaps_behind false v w ws h = h
 
 -- a wire is at its place
-pub there : (es : List (Wire × Place)) (w : Wire) (p : Place) → place_of es w ≡ Some p → Contains (wires_at es p) w
+pub there : (es : List (Wire × Place)) (w : Wire) (p : Place) → place_of es w ≡ Some p
+    → Contains (wires_at es p) w
 there [] w p at = cc
 there (e ∷ es) w p at =
     let xs = wires_at es p in
@@ -77,10 +82,13 @@ there (e ∷ es) w p at =
 -- a wire without a place
 unplaced : (es : List (Wire × Place)) (w : Wire) → Lacks (wires_in es) w → place_of es w ≡ None
 unplaced [] w lacks = refl
-unplaced (e ∷ es) w lacks = ap (λ b. cond b (Some e.1) (place_of es w)) (is_wire_other e.0 w lacks.0) ∙ unplaced es w lacks.1
+unplaced (e ∷ es) w lacks =
+    ap (λ b. cond b (Some e.1) (place_of es w)) (is_wire_other e.0 w lacks.0)
+    ∙ unplaced es w lacks.1
 
 -- a wire behind the first entry is another one
-later_place : (e : Wire × Place) (es : List (Wire × Place)) (w : Wire) (p : Place) → Distinct (wires_in (e ∷ es)) → place_of es w ≡ Some p → place_of (e ∷ es) w ≡ Some p
+later_place : (e : Wire × Place) (es : List (Wire × Place)) (w : Wire) (p : Place)
+    → Distinct (wires_in (e ∷ es)) → place_of es w ≡ Some p → place_of (e ∷ es) w ≡ Some p
 later_place e es w p once later =
     elim (is_wire e.0 w) as (λ b. is_wire e.0 w ≡ b → cond b (Some e.1) (place_of es w) ≡ Some p) [
       | true ↦ λ same.
@@ -90,7 +98,8 @@ later_place e es w p once later =
     ] refl
 
 -- the place of a wire is the one where it is
-pub back : (es : List (Wire × Place)) (w : Wire) (p : Place) → Distinct (wires_in es) → Contains (wires_at es p) w → place_of es w ≡ Some p
+pub back : (es : List (Wire × Place)) (w : Wire) (p : Place) → Distinct (wires_in es)
+    → Contains (wires_at es p) w → place_of es w ≡ Some p
 back [] w p once (k, below, is) = absurd (omega arith)
 back (e ∷ es) w p once h =
     let xs = wires_at es p in
@@ -99,14 +108,16 @@ back (e ∷ es) w p once h =
       | false ↦ λ _ c. later_place e es w p once (back es w p once.1 c)
     ] refl h
   where
-    first : is_place e.1 p ≡ true → (Contains (wires_at es p) w → place_of es w ≡ Some p) → Contains (e.0 ∷ wires_at es p) w → place_of (e ∷ es) w ≡ Some p
+    first : is_place e.1 p ≡ true → (Contains (wires_at es p) w → place_of es w ≡ Some p)
+        → Contains (e.0 ∷ wires_at es p) w → place_of (e ∷ es) w ≡ Some p
     first at rest (zero, below, is) =
         let same : is_wire e.0 w ≡ true = subst (λ v. is_wire e.0 v ≡ true) is (is_wire_itself e.0) in
         ap (λ b. cond b (Some e.1) (place_of es w)) same ∙ ap (λ k. Some k) (same_place e.1 p at)
     first at rest (suc k, below, is) = later_place e es w p once (rest (k, omega arith, is))
 
 -- ---- the wire in a slot
-pub slot_there : (es : List (Wire × Place)) (w : Wire) (r q : ℕ) → IsPlacing es → place_of es w ≡ Some (Slot r q) → wire_at es (Slot r q) ≡ Some w
+pub slot_there : (es : List (Wire × Place)) (w : Wire) (r q : ℕ) → IsPlacing es
+    → place_of es w ≡ Some (Slot r q) → wire_at es (Slot r q) ≡ Some w
 slot_there [] w r q h at = cc
 slot_there (e ∷ es) w r q h at =
     let rest = wire_at es (Slot r q) in
@@ -122,7 +133,8 @@ slot_there (e ∷ es) w r q h at =
           ] refl
     ] refl at
 
-slot_contains : (es : List (Wire × Place)) (w : Wire) (p : Place) → wire_at es p ≡ Some w → Contains (wires_at es p) w
+slot_contains : (es : List (Wire × Place)) (w : Wire) (p : Place) → wire_at es p ≡ Some w
+    → Contains (wires_at es p) w
 slot_contains [] w p at = cc
 slot_contains (e ∷ es) w p at =
     let xs = wires_at es p in
@@ -131,11 +143,13 @@ slot_contains (e ∷ es) w p at =
       | false ↦ λ later. slot_contains es w p later
     ] at
 
-pub slot_back : (es : List (Wire × Place)) (w : Wire) (p : Place) → Distinct (wires_in es) → wire_at es p ≡ Some w → place_of es w ≡ Some p
+pub slot_back : (es : List (Wire × Place)) (w : Wire) (p : Place) → Distinct (wires_in es)
+    → wire_at es p ≡ Some w → place_of es w ≡ Some p
 slot_back es w p once at = back es w p once (slot_contains es w p at)
 
 -- ---- a wire of the list has a place
-pub has_place : (es : List (Wire × Place)) (w : Wire) → Contains (wires_in es) w → (p : Place) × (place_of es w ≡ Some p)
+pub has_place : (es : List (Wire × Place)) (w : Wire) → Contains (wires_in es) w
+    → (p : Place) × (place_of es w ≡ Some p)
 has_place es w h =
     elim (place_of es w) as (λ o. place_of es w ≡ o → (p : Place) × (place_of es w ≡ Some p)) [
       | None ↦ λ absent. absurd (absent_where_lacked (wires_in es) w (lacked es w absent) h)

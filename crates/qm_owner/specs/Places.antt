@@ -80,5 +80,5 @@ abbrev pub with_wire : PlaceMap → Wire → Place → PlaceMap
 with_wire m w p = record m { placed = m.placed ++ (w, p) ∷ [] }
 
 -- w at p, and no longer where it was
-abbrev pub shifted : PlaceMap → Wire → Place → PlaceMap
-shifted m w p = record m { placed = without m.placed w ++ (w, p) ∷ [] }
+abbrev pub with_wire_moved : PlaceMap → Wire → Place → PlaceMap
+with_wire_moved m w p = record m { placed = without m.placed w ++ (w, p) ∷ [] }

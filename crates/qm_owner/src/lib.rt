@@ -3,21 +3,18 @@
 
 ghost use Rattle.std.specs.Prelude.{◌≡◌, ◌<◌, true, Some, None, IsSome, length, IfOk};
 ghost use Rattle.std.specs.Vec.{vec_capacity};
-ghost use Rattle.qm_owner.specs.Places.{place_of, wire_at, without, no_places, is_known, IsFree, IsPlacing, with_wire, shifted};
+ghost use Rattle.qm_owner.specs.Places.{place_of, wire_at, without, no_places, is_known, IsFree, IsPlacing, with_wire, with_wire_moved};
 ghost use Rattle.qm_owner.specs.Slots.{with_slots};
 
 use qm_denot::Wire;
 use std::alloc::{AllocError, Global};
 use std::marker::Model;
 
-#[cfg(test)]
-mod tests;
-
 /// How many slots each rank has here; a program may use fewer.
 const SLOTS: usize = qm_limits::SLOTS as usize;
 
 /// A place of a wire.
-#[derive(Clone, Copy, PartialEq, Eq, Debug)]
+#[derive(Clone, Copy, PartialEq, Eq)]
 pub enum Place {
     /// Slot `q` of rank `rank`.
     Slot { rank: u16, q: u8 },
@@ -110,13 +107,8 @@ impl Places {
     pub fn slot(&self, rank: u16, q: u8) -> Option<Wire>
         ensures { result ≡ wire_at self.now.placed (Place.Slot rank q) }
     {
-        match self.slots.get(usize::from(rank)) {
-            Some(row) => match row.get(usize::from(q)) {
-                Some(slot) => *slot,
-                None => None,
-            },
-            None => None,
-        }
+        let row = self.slots.get(usize::from(rank))?;
+        *row.get(usize::from(q))?
     }
 
     /// Gives a wire a place. The wire has none; a slot is one that there is, and empty; and fewer wires than the capacity have places.
@@ -155,7 +147,7 @@ impl Places {
         requires placed { IsSome (place_of self.old.placed w) }
         requires known { is_known self.old.ranks p ≡ true }
         requires free { IsFree self.old.placed p }
-        ensures places { self.new ≡ shifted self.old w p }
+        ensures places { self.new ≡ with_wire_moved self.old w p }
         ensures placing { IsPlacing self.new.placed }
     {
         self.take(w);

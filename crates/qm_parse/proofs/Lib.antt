@@ -1,5 +1,6 @@
 pub mod WordLemmas
 pub mod ListLemmas
+pub mod LookLemmas
 pub mod WeightLemmas
 pub mod LoopLemmas
 pub mod Behind

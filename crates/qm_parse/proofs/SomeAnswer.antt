@@ -2,8 +2,6 @@
 use Rattle.std.proofs.Common.{◌≡◌, ℕ, zero, suc, ◌+◌, ◌<◌, ◌≤◌, ◌⊎◌, inl, inr, true, false, List, [], ◌∷◌, length, drop, Option, Some, None, Ok, Err, refl, arith}
 use Rattle.std.specs.Prelude.{slice_get, option_map}
 use Rattle.qm_lex.specs.declared.tokens.Token.{Token}
-use Rattle.qm_lex.specs.declared.tokens.TokenKind.{TokenKind}
-use Rattle.qm_lex.specs.declared.tokens.TokenKind.TheVariants as kind
 use Rattle.qm_lex.specs.Spans.{SpansRise}
 use Rattle.qm_lex.specs.Lexing.{tokens_of}
 use Rattle.qm_lex.proofs.SpanLemmas.{tokens_of-LieIn}
@@ -15,33 +13,19 @@ use Rattle.qm_parse.specs.declared.goals.Stop.TheVariants as stop
 use Rattle.qm_parse.specs.declared.goals.Verdict.{Verdict}
 use Rattle.qm_parse.specs.declared.goals.Verdict.TheVariants as verdict
 use Rattle.qm_parse.specs.declared.tree.Node.{Node}
-use Rattle.qm_parse.specs.Signs.{Sign, sign, bytes_of, signs_of}
-use Rattle.qm_parse.specs.Looks.{look_of, look_at}
+use Rattle.qm_parse.specs.Signs.{Sign, signs_of}
 use Rattle.qm_parse.specs.Verdicts.{verdict_of}
-use Rattle.qm_parse.specs.Weights.{HasFewOperands}
 use Rattle.qm_parse.specs.Laws.{Refused}
 use Rattle.qm_parse.specs.Trees.{Program}
 use Rattle.qm_parse.specs.Faults.{Spells}
 use Rattle.qm_parse.specs.Parsing.{Parses}
 use Rattle.qm_parse.specs.Reaching.{Place, start_place, moved, behind_goal, next_look}
 use Rattle.qm_parse.specs.Places.{stop_on, error_of, AtGoal, Behind, Ends, Comes}
-use Rattle.qm_parse.proofs.WordLemmas.{few-word}
+use Rattle.qm_parse.proofs.LookLemmas.{few-look}
 use Rattle.qm_parse.proofs.LoopLemmas.{Going, left_of, length-signs, Going-start, Going-step}
 use Rattle.qm_parse.proofs.Law.{ends-parses, comes-parses}
 
 -- ---- tokens
--- a verb has few operands
-few-sign : (k : TokenKind) (bytes : List ℕ) → HasFewOperands (look_of (sign k bytes))
-few-sign kind.Word bytes = few-word bytes
-few-sign kind.Number bytes = tt
-few-sign kind.Symbol bytes = tt
-
-few-look : (text : List ℕ) (tokens : List Token) (n : ℕ) → HasFewOperands (look_at (drop n (signs_of text tokens)))
-few-look text [] zero = tt
-few-look text [] (suc n) = tt
-few-look text (t ∷ ts) zero = few-sign t.kind (bytes_of text t)
-few-look text (t ∷ ts) (suc n) = few-look text ts n
-
 -- a text has no more tokens than bytes
 tokens-few : (from end : ℕ) (ts : List Token) → SpansRise from end ts → from + length ts ≤ end
 tokens-few from end [] r = omega (arith, r)

@@ -1,14 +1,17 @@
 -- Words, numbers and the table of reserved words
-use Rattle.std.proofs.Common.{◌≡◌, ℕ, ◌+◌, ◌-◌, ◌*◌, ◌<◌, ◌≤◌, Bool, true, false, List, [], ◌∷◌, nat_le, Option, Some, None, refl, sym, ap, ◌∙◌, arith, ◌&&◌}
+use Rattle.std.proofs.Common.{◌≡◌, ℕ, ◌+◌, ◌-◌, ◌*◌, ◌<◌, ◌≤◌, Bool, true, false, List, [], ◌∷◌, map, nat_le, Option, Some, None, refl, sym, ap, ◌∙◌, arith, ◌&&◌}
 use Rattle.std.specs.Prelude.{fold, find, option_map, count_by, is_some}
 use Rattle.std.specs.List.{list_all}
 use Rattle.std.specs.Str.{bytes_eq}
 use Rattle.std.proofs.lemmas.Bool.Decides.{nat_tests}
 use Rattle.qm_parse.specs.declared.words.Reserved.{Reserved}
 use Rattle.qm_parse.specs.declared.words.Reserved.TheVariants as reserved
-use Rattle.qm_parse.specs.declared.words.Row.{Row}
-use Rattle.qm_parse.specs.declared.words.TheConstants.{WORDS}
-use Rattle.qm_parse.specs.Words.{reserved_of, word_of}
+use Rattle.qm_parse.specs.declared.table.Entry.{Entry}
+use Rattle.qm_parse.specs.declared.table.TheConstants.{WORDS}
+use Rattle.qm_parse.specs.declared.words.Version.{Version}
+use Rattle.qm_parse.specs.declared.words.Version.TheVariants as version
+use Rattle.qm_parse.specs.Words.{Word, words, meaning, reserved_of}
+use Rattle.qm_parse.specs.Laws.{SameWords, word_in, without_spaces, entry_meaning}
 use Rattle.qm_parse.specs.Signs.{word_sign}
 use Rattle.qm_parse.specs.Looks.{capped, look_of}
 use Rattle.qm_parse.specs.Weights.{HasFewOperands}
@@ -43,6 +46,23 @@ fold-capped n bs = by_test (nat_le n 2147483647) refl
         ap (λ z. capped (fold with_digit z bs)) (capped-large n large) ∙ fold-large 2147483648 bs over ∙ sym (fold-large n bs large)
 
 -- ---- the table
+pub same_words : SameWords
+same_words = refl
+
+-- a word means the same by entries as by the words that they are
+same_meaning : (bytes : List ℕ) (entries : List Entry) → entry_meaning entries bytes ≡ meaning (map word_in entries) bytes
+same_meaning bytes [] = refl
+same_meaning bytes (e ∷ es) = by_test (same_meaning bytes es) (bytes_eq bytes (without_spaces e.word)) refl
+  where
+    by_test : entry_meaning es bytes ≡ meaning (map word_in es) bytes → (t : Bool) → bytes_eq bytes (without_spaces e.word) ≡ t
+        → entry_meaning (e ∷ es) bytes ≡ meaning (map word_in (e ∷ es)) bytes
+    by_test more true t = rw t refl
+    by_test more false t = rw t more
+
+pub found_word : (v : Version) (bytes : List ℕ) → entry_meaning WORDS bytes ≡ reserved_of v bytes
+found_word version.One bytes = same_meaning bytes WORDS ∙ ap (λ table. meaning table bytes) same_words
+
+-- each verb of the table has four operands at most
 abbrev few : Reserved → Bool
 few (reserved.Keyword k) = true
 few (reserved.Verb v) = nat_le (count_by is_some v.operands) 4
@@ -59,16 +79,19 @@ pub and-right : (a b : Bool) → a && b ≡ true → b ≡ true
 and-right true b e = e
 and-right false b e = cc
 
-few-found : (p : Row → Bool) (rows : List Row) → list_all (λ row. few row.means) rows ≡ true → FewIn (option_map (λ row. row.means) (find p rows))
-few-found p [] e = tt
-few-found p (row ∷ rows) e = by_test (few-found p rows (and-right _ _ e)) (p row) refl
+few-found : (bytes : List ℕ) (table : List Word) → list_all (λ w. few w.means) table ≡ true → FewIn (meaning table bytes)
+few-found bytes [] e = tt
+few-found bytes (w ∷ ws) e = by_test (few-found bytes ws (and-right _ _ e)) (bytes_eq bytes w.bytes) refl
   where
-    by_test : FewIn (option_map (λ row. row.means) (find p rows)) → (t : Bool) → p row ≡ t → FewIn (option_map (λ row. row.means) (find p (row ∷ rows)))
+    by_test : FewIn (meaning ws bytes) → (t : Bool) → bytes_eq bytes w.bytes ≡ t → FewIn (meaning (w ∷ ws) bytes)
     by_test more true t = rw t (and-left _ _ e)
     by_test more false t = rw t more
 
-pub few-word : (word : List ℕ) → HasFewOperands (look_of (word_sign word (reserved_of word)))
-few-word word = by_meaning (reserved_of word) (few-found (λ row. bytes_eq word (word_of row)) WORDS refl)
+few-words : (v : Version) → list_all (λ w. few w.means) (words v) ≡ true
+few-words version.One = refl
+
+pub few-word : (v : Version) (word : List ℕ) → HasFewOperands (look_of (word_sign word (reserved_of v word)))
+few-word v word = by_meaning (reserved_of v word) (few-found word (words v) (few-words v))
   where
     by_meaning : (o : Option Reserved) → FewIn o → HasFewOperands (look_of (word_sign word o))
     by_meaning None h = tt

@@ -1,10 +1,16 @@
 -- Tokens have one source tree, or one first fault, and never both
-use Rattle.std.specs.Prelude.{◌≡◌, ℕ, ◌≤◌, ◌⊎◌, List, length, Ok}
+use Rattle.std.specs.Prelude.{◌≡◌, ℕ, ◌≤◌, ◌⊎◌, ◌==◌, not, List, length, map, take_while, find, Option, option_map, Ok}
+use Rattle.std.specs.Str.{bytes_eq}
 use Rattle.qm_lex.specs.declared.tokens.Token.{Token}
 use Rattle.qm_limits.specs.declared.TheConstants.{MOST_BYTES}
 use Rattle.qm_lex.specs.Lexing.{end_line, tokens_of}
 use Rattle.qm_parse.specs.declared.errors.ParseError.{ParseError}
 use Rattle.qm_parse.specs.declared.errors.ParseError.TheVariants.{Unexpected, NumberTooLarge, TooDeep, Unended, Memory}
+use Rattle.qm_parse.specs.declared.table.Entry.{Entry}
+use Rattle.qm_parse.specs.declared.table.TheConstants.{WORDS}
+use Rattle.qm_parse.specs.declared.words.Reserved.{Reserved}
+use Rattle.qm_parse.specs.declared.words.Version.TheVariants as version
+use Rattle.qm_parse.specs.Words.{Word, words}
 use Rattle.qm_parse.specs.Signs.{Sign, signs_of}
 use Rattle.qm_parse.specs.Trees.{Program}
 use Rattle.qm_parse.specs.Faults.{Spells, IsUnexpected, IsTooLarge, IsTooDeep, IsUnended}
@@ -35,3 +41,20 @@ TreeOrFault =
 abbrev pub SomeTreeOrFault : Type 0
 SomeTreeOrFault = (text : List ℕ) (tokens : List Token) → tokens_of text ≡ Ok tokens → length text ≤ MOST_BYTES
     → ((p : Program) × Spells (signs_of text tokens) p) ⊎ ((e : ParseError) × Refused text tokens e)
+
+-- ---- the words
+-- the bytes of a word that is filled up with spaces
+abbrev pub without_spaces : List ℕ → List ℕ
+without_spaces bytes = take_while (λ b. not (b == 32)) bytes
+
+-- an entry of the code's table
+abbrev pub word_in : Entry → Word
+word_in entry = record { bytes = without_spaces entry.word; means = entry.means }
+
+-- what a word means by such entries
+abbrev pub entry_meaning : List Entry → List ℕ → Option Reserved
+entry_meaning entries bytes = option_map (λ entry. entry.means) (find (λ entry. bytes_eq bytes (without_spaces entry.word)) entries)
+
+-- the code's table has the reserved words of version 1
+abbrev pub SameWords : Type 0
+SameWords = map word_in WORDS ≡ words version.One

@@ -1,10 +1,12 @@
 -- Tokens as the reading sees them: no more of each than decides how the reading goes on
-use Rattle.std.specs.Prelude.{ℕ, ◌+◌, ◌==◌, ◌||◌, ◌&&◌, Bool, false, nat_le, if◌then◌else◌, List, [], ◌∷◌}
+use Rattle.std.specs.Prelude.{ℕ, ◌+◌, ◌==◌, ◌||◌, ◌&&◌, Bool, false, nat_le, if◌then◌else◌, List, [], ◌∷◌, map, Option, Some, None}
 use Rattle.std.specs.List.{list_all}
+use Rattle.qm_lex.specs.declared.tokens.Token.{Token}
 use Rattle.qm_limits.specs.declared.TheConstants.{LARGEST_VALUE}
 use Rattle.qm_parse.specs.declared.looks.Look.{Look}
 use Rattle.qm_parse.specs.declared.looks.Look.TheVariants as look
-use Rattle.qm_parse.specs.Signs.{Sign, Number, Key, Act, Ident, Symbol}
+use Rattle.qm_parse.specs.declared.words.Verb.{Verb}
+use Rattle.qm_parse.specs.Signs.{Sign, Number, Key, Act, Ident, Symbol, signs_of}
 
 -- a number, or the first one that is too large
 abbrev pub capped : ℕ → ℕ
@@ -31,3 +33,17 @@ look_of (Symbol m) = look.Mark m
 abbrev pub look_at : List Sign → Look
 look_at [] = look.End
 look_at (t ∷ ts) = look_of t
+
+-- the tokens of a text as the reading sees them
+abbrev pub looks_of : List ℕ → List Token → List Look
+looks_of text tokens = map look_of (signs_of text tokens)
+
+-- the next of these looks, or the end
+abbrev pub look_next : List Look → Look
+look_next [] = look.End
+look_next (l ∷ ls) = l
+
+-- the instruction or collective that a look is
+abbrev pub verb_seen : Look → Option Verb
+verb_seen (look.Verb v) = Some v
+verb_seen l = None

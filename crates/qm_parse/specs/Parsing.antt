@@ -1,11 +1,13 @@
 -- What parsing a text may answer
-use Rattle.std.specs.Prelude.{◌≡◌, ℕ, List, length, slice_get, Some, Result, Ok, Err}
+use Rattle.std.specs.Prelude.{◌≡◌, ℕ, List, length, map, slice_get, Option, Some, Result, Ok, Err}
 use Rattle.qm_lex.specs.declared.tokens.Token.{Token}
 use Rattle.qm_lex.specs.Lexing.{end_line}
 use Rattle.qm_parse.specs.declared.tree.Node.{Node}
 use Rattle.qm_parse.specs.declared.tree.Tree.{Tree}
 use Rattle.qm_parse.specs.declared.errors.ParseError.{ParseError}
 use Rattle.qm_parse.specs.declared.errors.ParseError.TheVariants.{Unexpected, NumberTooLarge, TooDeep, Unended, Memory}
+use Rattle.qm_parse.specs.declared.words.Verb.{Verb}
+use Rattle.qm_parse.specs.Looks.{verb_seen}
 use Rattle.qm_parse.specs.Signs.{Sign, signs_of}
 use Rattle.qm_parse.specs.Trees.{Program}
 use Rattle.qm_parse.specs.Nodes.{program_nodes}
@@ -14,6 +16,10 @@ use Rattle.qm_parse.specs.Faults.{Spells, StopsAt, IsUnexpected, IsTooLarge, IsT
 -- the nodes in their order
 abbrev pub node_list : Tree → List Node
 node_list tree = tree.items.items
+
+-- the instruction or collective that each token names, by the token's number
+abbrev pub verb_list : Tree → List (Option Verb)
+verb_list tree = map verb_seen tree.looks.items
 
 -- a program that the tokens spell, and these are its nodes
 pub record IsTree (signs : List Sign) (nodes : List Node) : Type 0 where

@@ -9,6 +9,8 @@ use Rattle.qm_parse.specs.declared.words.Mark.TheVariants as mark
 use Rattle.qm_parse.specs.declared.words.Reserved.{Reserved}
 use Rattle.qm_parse.specs.declared.words.Reserved.TheVariants as reserved
 use Rattle.qm_parse.specs.declared.words.Verb.{Verb}
+use Rattle.qm_parse.specs.declared.words.Version.{Version}
+use Rattle.qm_parse.specs.declared.words.Version.TheVariants as version
 use Rattle.qm_parse.specs.Words.{reserved_of, value_of}
 
 -- a number by its value, a reserved word by its meaning, any other word by its bytes, a symbol
@@ -39,20 +41,29 @@ word_sign bytes (Some (reserved.Keyword k)) = Key k
 word_sign bytes (Some (reserved.Verb v)) = Act v
 word_sign bytes None = Ident bytes
 
--- a token of a kind with these bytes
-abbrev pub sign : TokenKind → List ℕ → Sign
-sign kind.Word bytes = word_sign bytes (reserved_of bytes)
-sign kind.Number bytes = Number (value_of bytes)
-sign kind.Symbol bytes = Symbol (mark_of (slice_index bytes 0))
+-- a token of a kind with these bytes, in a text of a version
+abbrev pub sign : Version → TokenKind → List ℕ → Sign
+sign v kind.Word bytes = word_sign bytes (reserved_of v bytes)
+sign v kind.Number bytes = Number (value_of bytes)
+sign v kind.Symbol bytes = Symbol (mark_of (slice_index bytes 0))
 
 -- the bytes of a token
 abbrev pub bytes_of : List ℕ → Token → List ℕ
 bytes_of text t = slice_range text t.start t.stop
 
--- a token of a text, as the grammar sees it
-abbrev pub sign_of : List ℕ → Token → Sign
-sign_of text t = sign t.kind (bytes_of text t)
+-- a token of a text of a version, as the grammar sees it
+abbrev pub sign_of : Version → List ℕ → Token → Sign
+sign_of v text t = sign v t.kind (bytes_of text t)
 
--- the tokens of a text, in their order
+-- the tokens of a text, in their order. Each text is one of version 1
 abbrev pub signs_of : List ℕ → List Token → List Sign
-signs_of text tokens = map (sign_of text) tokens
+signs_of text tokens = map (sign_of version.One text) tokens
+
+-- the instruction or collective that a token names
+abbrev pub verb_of : Sign → Option Verb
+verb_of (Act v) = Some v
+verb_of s = None
+
+-- those of the tokens of a text, in their order
+abbrev pub verbs_of : List ℕ → List Token → List (Option Verb)
+verbs_of text tokens = map verb_of (signs_of text tokens)

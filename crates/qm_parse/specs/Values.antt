@@ -12,6 +12,7 @@ use Rattle.qm_parse.specs.declared.words.Mark.TheVariants as mark
 use Rattle.qm_parse.specs.declared.words.Operand.TheVariants as operand
 use Rattle.qm_parse.specs.declared.words.Reserved.TheVariants as reserved
 use Rattle.qm_parse.specs.declared.words.Verb.{Verb}
+use Rattle.qm_parse.specs.declared.words.Version.TheVariants as version
 use Rattle.qm_parse.specs.Words.{reserved_of, operands_of, bits_word}
 use Rattle.qm_parse.specs.Signs.{Sign, Symbol, signs_of}
 use Rattle.qm_parse.specs.Trees.{Plus, Times, Expr, Sum, NoAdd, Add, Product, NoMul, Mul, Prim, Num, Name, Rank, Paren, Nothing, Then, Stmt, DoUnder, For, ForEach, Program}
@@ -31,23 +32,23 @@ verb_when = record { action = action.When; operands = Some operand.Bit ∷ None 
 abbrev verb_bcast : Verb
 verb_bcast = record { action = action.Bcast; operands = Some operand.Slot ∷ Some operand.Root ∷ Some operand.Tag ∷ None ∷ [] }
 
-word_bcast : reserved_of (codes "bcast") ≡ Some (reserved.Verb verb_bcast)
+word_bcast : reserved_of version.One (codes "bcast") ≡ Some (reserved.Verb verb_bcast)
 word_bcast = refl
 
 operands_bcast : operands_of verb_bcast ≡ operand.Slot ∷ operand.Root ∷ operand.Tag ∷ []
 operands_bcast = refl
 
-word_protocol : reserved_of (codes "protocol") ≡ Some (reserved.Keyword keyword.Protocol)
+word_protocol : reserved_of version.One (codes "protocol") ≡ Some (reserved.Keyword keyword.Protocol)
 word_protocol = refl
 
 -- names: no beginning of a reserved word, no capital, no tree form of a broadcast
-word_b : reserved_of (codes "b") ≡ None
+word_b : reserved_of version.One (codes "b") ≡ None
 word_b = refl
 
-word_H : reserved_of (codes "H") ≡ None
+word_H : reserved_of version.One (codes "H") ≡ None
 word_H = refl
 
-word_treecast : reserved_of (codes "treecast") ≡ None
+word_treecast : reserved_of version.One (codes "treecast") ≡ None
 word_treecast = refl
 
 outcomes_word : bits_word (false ∷ true ∷ []) ≡ codes "b01"

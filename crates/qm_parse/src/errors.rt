@@ -1,4 +1,8 @@
 //! Why a text has no source tree.
+ghost use Rattle.std.specs.Prelude.{◌≡◌};
+ghost use Rattle.qm_parse.specs.declared.errors.ParseError.TheVariants.{Memory};
+
+use std::alloc::AllocError;
 use thiserror::Error;
 
 /// The first token at which the grammar can't go on, by its line.
@@ -19,4 +23,12 @@ pub enum ParseError {
     /// The allocator has no memory left.
     #[error("out of memory")]
     Memory,
+}
+
+impl From<AllocError> for ParseError {
+    ghost from_gives = { λ _ e. e ≡ Memory };
+
+    fn from(_error: AllocError) -> ParseError {
+        ParseError::Memory
+    }
 }

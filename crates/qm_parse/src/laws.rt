@@ -1,6 +1,6 @@
-//! The laws of parsing, for any tokens.
+//! The laws of parsing, for any tokens, and that of the reserved words.
 
-ghost use Rattle.qm_parse.specs.Laws.{OneFault, OneTree, SomeTreeOrFault, TreeOrFault};
+ghost use Rattle.qm_parse.specs.Laws.{OneFault, OneTree, SameWords, SomeTreeOrFault, TreeOrFault};
 
 /// Tokens spell one source tree at most.
 pub fn one_tree()
@@ -20,4 +20,9 @@ pub fn tree_or_fault()
 /// The tokens of a text spell a source tree, or have a first fault.
 pub fn some_tree_or_fault()
     ensures { SomeTreeOrFault }
+{}
+
+/// The table by which words are looked up is that of the definitions.
+pub fn words_law()
+    ensures { SameWords }
 {}

@@ -1,16 +1,16 @@
 //! Tokens as the reading sees them.
-ghost use Rattle.std.specs.Prelude.{◌≡◌, ◌<◌, length, drop};
+ghost use Rattle.std.specs.Prelude.{◌≡◌, ◌<◌, ◌≤◌, length, drop, IfOk};
 ghost use Rattle.qm_lex.specs.Lexing.{token_list};
 ghost use Rattle.qm_lex.specs.Spans.{LieIn};
 ghost use Rattle.std.specs.List.{list_all};
 ghost use Rattle.qm_parse.specs.Words.{reserved_of, value_of};
-ghost use Rattle.qm_parse.specs.Signs.{mark_of, word_sign, sign, signs_of};
-ghost use Rattle.qm_parse.specs.Looks.{is_outcome, is_bits, capped, look_of, look_at};
-ghost use Rattle.qm_parse.specs.Weights.{HasFewOperands};
+ghost use Rattle.qm_parse.specs.Signs.{mark_of, word_sign, sign, sign_of};
+ghost use Rattle.qm_parse.specs.Looks.{is_outcome, is_bits, capped, look_of, looks_of, look_next};
 
-use crate::words::{Keyword, Mark, Reserved, Verb, reserved_of};
-use qm_lex::{TokenKind, Tokens};
+use crate::words::{Keyword, Mark, Reserved, Verb, Version, reserved_of};
+use qm_lex::{Token, TokenKind, Tokens};
 use qm_limits::LARGEST_VALUE;
+use std::alloc::{AllocError, Global};
 
 /// A token as the reading sees it.
 #[derive(Clone, Copy)]
@@ -87,39 +87,60 @@ fn mark_of(byte: u8) -> Mark
     }
 }
 
-/// A word with these bytes.
-fn word_look(word: &[u8]) -> Look
-    ensures look { result ≡ look_of (word_sign word.now (reserved_of word.now)) }
-    ensures few { HasFewOperands result }
+/// A word with these bytes, in a text of a version.
+fn word_look(version: Version, word: &[u8]) -> Look
+    ensures { result ≡ look_of (word_sign word.now (reserved_of version word.now)) }
 {
-    match reserved_of(word) {
+    match reserved_of(version, word) {
         Some(Reserved::Keyword(keyword)) => Look::Keyword(keyword),
         Some(Reserved::Verb(verb)) => Look::Verb(verb),
         None => Look::Name(is_bits(word)),
     }
 }
 
-/// A token of this kind with these bytes, of which there is one at least.
-fn look_of(kind: TokenKind, bytes: &[u8]) -> Look
+/// A token of this kind with these bytes, of which there is one at least, in a text of a version.
+fn look_of(version: Version, kind: TokenKind, bytes: &[u8]) -> Look
     requires { 0 < length bytes.now }
-    ensures look { result ≡ look_of (sign kind bytes.now) }
-    ensures few { HasFewOperands result }
+    ensures { result ≡ look_of (sign version kind bytes.now) }
 {
     match kind {
-        TokenKind::Word => word_look(bytes),
+        TokenKind::Word => word_look(version, bytes),
         TokenKind::Number => Look::Number(value_of(bytes)),
         TokenKind::Symbol => Look::Mark(mark_of(bytes[0])),
     }
 }
 
-/// The token with this number.
-pub(crate) fn look_at(text: &[u8], tokens: &Tokens, at: u32) -> Look
-    requires { LieIn text.now (token_list tokens.now) }
-    ensures look { result ≡ look_at (drop at (signs_of text.now (token_list tokens.now))) }
-    ensures few { HasFewOperands result }
+/// A token of a text of a version.
+fn look_of_token(version: Version, text: &[u8], token: Token) -> Look
+    requires rising { token.start < token.stop }
+    requires within { token.stop ≤ length text.now }
+    ensures { result ≡ look_of (sign_of version text.now token) }
 {
-    match tokens.token(at) {
-        Some(token) => look_of(token.kind, &text[token.start as usize..token.stop as usize]),
+    look_of(
+        version,
+        token.kind,
+        &text[token.start as usize..token.stop as usize],
+    )
+}
+
+/// The tokens of a text, in their order.
+pub(crate) fn looks_of(alloc: Global, text: &[u8], tokens: &Tokens) -> Result<Vec<Look>, AllocError>
+    requires { LieIn text.now (token_list tokens.now) }
+    ensures { IfOk result (λ looks. looks.items ≡ looks_of text.now (token_list tokens.now)) }
+{
+    let mut looks = Vec::new(alloc);
+    for token in tokens.as_slice() {
+        looks.push(look_of_token(Version::One, text, *token))?;
+    }
+    Ok(looks)
+}
+
+/// The token with this number.
+pub(crate) fn look_at(looks: &[Look], at: u32) -> Look
+    ensures { result ≡ look_next (drop at looks.now) }
+{
+    match looks.get(at as usize) {
+        Some(look) => *look,
         None => Look::End,
     }
 }

@@ -2,12 +2,13 @@
 ghost use Rattle.std.specs.Prelude.{◌≡◌, ◌+◌, ◌<◌, ◌≤◌, length, slice_get, option_map, OnOk, IfOk, Ok};
 ghost use Rattle.qm_lex.specs.Lexing.{end_line, token_list, tokens_of};
 ghost use Rattle.qm_parse.specs.Reaching.{depth_behind, with_stop};
-ghost use Rattle.qm_parse.specs.Parsing.{Parses};
+ghost use Rattle.qm_parse.specs.Parsing.{Parses, verb_list};
+ghost use Rattle.qm_parse.specs.Signs.{verbs_of};
 ghost use Rattle.qm_parse.specs.Places.{error_of};
 
 use crate::errors::ParseError;
 use crate::goals::{Fixed, Goal, Stop, Verdict, leaf_of, verdict_of};
-use crate::looks::{Look, look_at};
+use crate::looks::{Look, look_at, looks_of};
 use crate::stack::Goals;
 use crate::tree::{Node, Tree};
 use crate::words::Mark;
@@ -157,26 +158,25 @@ fn error_at(text: &[u8], tokens: &Tokens, at: u32, stop: Stop) -> ParseError
 pub fn parse(alloc: Global, text: &[u8], tokens: &Tokens) -> Result<Tree, ParseError>
     requires small { length text.now ≤ MOST_BYTES }
     requires tokens { tokens_of text.now ≡ Ok (token_list tokens.now) }
-    ensures { Parses text.now (token_list tokens.now) result }
+    ensures tree { Parses text.now (token_list tokens.now) result }
+    ensures verbs { IfOk result (λ tree. verb_list tree ≡ verbs_of text.now (token_list tokens.now)) }
 {
-    let Ok(mut reading) = Reading::start(alloc) else {
-        return Err(ParseError::Memory);
-    };
+    let looks = looks_of(alloc, text, tokens)?;
+    let mut reading = Reading::start(alloc)?;
     while let Some(goal) = reading.goals.pop() {
-        let look = look_at(text, tokens, reading.at);
+        let look = look_at(looks.as_slice(), reading.at);
         let takes = match verdict_of(goal, look, reading.depth) {
             Verdict::Take => true,
             Verdict::Stay => false,
             Verdict::Stop(stop) => return Err(error_at(text, tokens, reading.at, stop)),
         };
-        let Ok(()) = reading.go_on(goal, look, takes) else {
-            return Err(ParseError::Memory);
-        };
+        reading.go_on(goal, look, takes)?;
     }
     if reading.at < tokens.len() {
         return Err(error_at(text, tokens, reading.at, Stop::Unexpected));
     }
     Ok(Tree {
         items: reading.nodes,
+        looks,
     })
 }

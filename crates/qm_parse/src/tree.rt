@@ -1,6 +1,9 @@
 //! Source trees, written as lists of nodes.
 ghost use Rattle.std.specs.Prelude.{length, ◌<◌, ◌^◌};
 
+use crate::looks::Look;
+use crate::words::Verb;
+
 /// What a node of a source tree stands for.
 #[derive(Clone, Copy, Debug, PartialEq, Eq)]
 pub enum What {
@@ -45,16 +48,25 @@ pub struct Node {
     pub stop: u32,
 }
 
-/// The source tree of a text, as the list of its nodes. There are at most 4,294,967,295.
+/// The source tree of a text, as the list of its nodes, of which there are at most 4,294,967,295; and what each token of the text is.
 #[derive(Drop)]
 pub struct Tree {
     pub(crate) items: Vec<Node>,
+    pub(crate) looks: Vec<Look>,
     ghost few: { length items.items < 2 ^ 32 },
 }
 
 impl Tree {
-    ghost use Rattle.std.specs.Prelude.{◌≡◌, slice_get};
-    ghost use Rattle.qm_parse.specs.Parsing.{node_list};
+    ghost use Rattle.std.specs.Prelude.{◌≡◌, None, get_or, slice_get};
+    ghost use Rattle.qm_parse.specs.Parsing.{node_list, verb_list};
+
+    /// All nodes, in their order.
+    pub fn nodes(&self) -> &[Node]
+        ensures all { result.now ≡ node_list self.now }
+        ensures few { length result.now < 2 ^ 32 }
+    {
+        self.items.as_slice()
+    }
 
     /// How many nodes there are.
     pub fn len(&self) -> u32
@@ -68,5 +80,15 @@ impl Tree {
         ensures { result ≡ slice_get (node_list self.now) j }
     {
         self.items.get(j as usize).copied()
+    }
+    /// The instruction or collective that the token with this number names, from 0 on; none where it names none, or there are not as many
+    /// tokens.
+    pub fn verb(&self, token: u32) -> Option<Verb>
+        ensures { result ≡ get_or (verb_list self.now) token None }
+    {
+        match self.looks.get(token as usize) {
+            Some(Look::Verb(verb)) => Some(*verb),
+            _ => None,
+        }
     }
 }

@@ -1,6 +1,6 @@
 -- Branches that go on over slots and come back, and the lines that are written of them
-use Rattle.std.proofs.Common.{◌≡◌, ℕ, ◌+◌, ◌-◌, ◌<◌, ◌≤◌, Bool, true, false, List, [], ◌∷◌, ◌++◌, length, take, drop, get_or, map, All, Contains, refl, sym, ◌∙◌, ap, subst, arith, add-one, append_assoc, length-append, Decides, ℤ, pos, negsuc}
-use Rattle.std.proofs.lemmas.Bool.Decides.{Decides-and, Decides-int_eq, Decides-like, same_from_decides}
+use Rattle.std.proofs.Common.{◌≡◌, ℕ, ◌+◌, ◌-◌, ◌<◌, ◌≤◌, true, false, List, [], ◌∷◌, ◌++◌, length, take, drop, get_or, map, All, Contains, refl, sym, ◌∙◌, ap, subst, arith, append_assoc, length-append, Decides, ℤ, pos, negsuc}
+use Rattle.std.proofs.lemmas.Bool.Decides.{Decides-and, Decides-int_eq, Decides-like}
 use Rattle.std.proofs.lemmas.Int.{to_z-of_z}
 use Rattle.std.proofs.lemmas.List.Elements.{All-nil, All-head, All-tail, All-cons}
 use Rattle.std.proofs.Math.Seq.{take-append_seam, take-length}
@@ -27,10 +27,6 @@ Decides-is_zero_number z =
     Decides-like _ (λ p. same z zero_number p.0 p.1.0 p.1.1.0 p.1.1.1)
     (λ e. (ap (λ (w : Number). w.a) e, (ap (λ (w : Number). w.b) e, (ap (λ (w : Number). w.c) e, ap (λ (w : Number). w.d) e))))
     (Decides-and _ _ (Decides-int_eq z.a (pos 0)) (Decides-and _ _ (Decides-int_eq z.b (pos 0)) (Decides-and _ _ (Decides-int_eq z.c (pos 0)) (Decides-int_eq z.d (pos 0)))))
-
--- two tests for 0 agree
-pub is_zero_number-same : (b : Bool) (z : Number) → Decides b (z ≡ zero_number) → is_zero_number z ≡ b
-is_zero_number-same b z d = same_from_decides _ b (Decides-is_zero_number z) d
 
 -- a component that is passed on is itself
 pub component-passed : (x : ℤ) → IsInRange x → to_z w128 (of_z w128 x) ≡ x
@@ -76,9 +72,6 @@ one_entered a w = record { bits = a.bits ++ 49 ∷ []; ones = a.ones ++ w ∷ []
 abbrev pub zero_left : BranchView → BranchView
 zero_left a = record a { bits = without_last a.bits }
 
-abbrev pub one_left : BranchView → BranchView
-one_left a = record { bits = without_last a.bits; ones = without_last a.ones }
-
 without_last-push : {T : Type 0} (ts : List T) (t : T) → without_last (ts ++ t ∷ []) ≡ ts
 without_last-push ts t =
     let n : length (ts ++ t ∷ []) - 1 ≡ length ts = omega (arith, length-append ts (t ∷ [])) in
@@ -86,17 +79,6 @@ without_last-push ts t =
 
 pub zero_back : (a : BranchView) → zero_left (zero_entered a) ≡ a
 zero_back a = ap (λ bs. let b : BranchView = record { bits = bs; ones = a.ones } in b) (without_last-push a.bits 48)
-
-pub one_back : (a : BranchView) (w : Wire) → one_left (one_entered a w) ≡ a
-one_back a w =
-    ap (λ bs. let b : BranchView = record { bits = bs; ones = without_last (a.ones ++ w ∷ []) } in b) (without_last-push a.bits 49)
-    ∙ ap (λ ws. let b : BranchView = record { bits = a.bits; ones = ws } in b) (without_last-push a.ones w)
-
-pub some_bits : (a : BranchView) → 0 < length (zero_entered a).bits
-some_bits a = omega (arith, length-append a.bits (48 ∷ []))
-
-pub some_one : (a : BranchView) (w : Wire) → (0 < length (one_entered a w).bits) × (0 < length (one_entered a w).ones)
-some_one a w = (omega (arith, length-append a.bits (49 ∷ [])), omega (arith, length-append a.ones (w ∷ [])))
 
 -- ---- a branch that goes on over a first slot and the rest
 -- all slots but the first, as the code takes them
@@ -113,9 +95,6 @@ first_and_rest (s ∷ ss) d h =
     let n : length (s ∷ ss) - 1 ≡ length ss = omega arith in
     let e : take (length (s ∷ ss) - 1) ss ≡ ss = ap (λ k. take k ss) n ∙ take-length ss in
     ap (λ (ts : List Live). s ∷ ts) (sym e)
-
-pub size_by_rest : (ss : List Live) → 1 ≤ length ss → length ss ≡ length (rest_of ss) + 1
-size_by_rest ss some = ap length (first_and_rest ss some_slot some) ∙ sym (add-one _)
 
 GoesOn-zero : (live : List Wire) (a : BranchView) (s : Live) (ss : List Live) → GoesOn live a (s ∷ ss) → GoesOn live (zero_entered a) ss
 GoesOn-zero live a s ss g = record {

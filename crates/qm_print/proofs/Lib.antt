@@ -1,6 +1,7 @@
-pub mod GatherLemmas
-pub mod BelowLemmas
-pub mod BitsLemmas
-pub mod WalkLemmas
-pub mod BranchLemmas
+mod GatherLemmas
+mod BelowLemmas
+mod BitsLemmas
+mod WalkLemmas
+mod BranchLemmas
 pub mod LineLemmas
+mod TurnsLemmas

@@ -1,6 +1,6 @@
 -- Where the ranks stand after each turn, and which event is next there
-use Rattle.std.proofs.Common.{◌≡◌, ◌∙◌, ℕ, zero, suc, ◌+◌, ◌<◌, ◌≤◌, nat_lt, cond, Bool, true, false, is_some, List, [], ◌∷◌, ◌++◌, length, take, drop, map, fold, get_or, set, replicate, Option, Some, None, IsSome, slice_get, option_map, refl, sym, ap, ap₂, subst, arith, add-one, append_assoc, drop-cons}
-use Rattle.std.proofs.lemmas.List.{length-set, length-replicate, length-take-le, get_or-set_same, get_or-set_other, append-nil, take_more, take-append-drop}
+use Rattle.std.proofs.Common.{◌≡◌, ◌∙◌, ℕ, zero, suc, ◌+◌, ◌<◌, ◌≤◌, nat_lt, cond, Bool, true, false, is_some, List, [], ◌∷◌, ◌++◌, length, take, drop, map, fold, get_or, set, replicate, Option, Some, None, slice_get, option_map, refl, sym, ap, ap₂, subst, arith, add-one, append_assoc, drop-cons}
+use Rattle.std.proofs.lemmas.List.{length-set, get_or-set_same, get_or-set_other, append-nil, take_more, take-append-drop}
 use Rattle.std.proofs.lemmas.Option.{slice_get-map, slice_get_within}
 use Rattle.std.proofs.lemmas.List.Sums.{fold_push, get_or-le-sum_by}
 use Rattle.qm_instr.specs.declared.Instr.{Instr}
@@ -11,16 +11,16 @@ use Rattle.qm_proto.specs.declared.Row.{Row}
 use Rattle.qm_proto.specs.Events.{events_in}
 use Rattle.qm_proto.specs.Model.Rows.{rows, current, instr_at}
 use Rattle.qm_proto.specs.Model.Runs.{row_in, row_next, row_holds, enabled, events_at, next_tables, next}
-use Rattle.qm_proto.specs.Model.Schedules.{IsLegalFrom, state_at_start, tables_at_start}
+use Rattle.qm_proto.specs.Model.Schedules.{IsLegalFrom, state_at_start}
 use Rattle.qm_proto.specs.Model.State.{Tables, State, with_at}
 use Rattle.qm_proto.proofs.Changes.{by_number, with_at-here, with_at-elsewhere}
-use Rattle.qm_runs.specs.Stuck.Shapes.{Shape}
+use Rattle.qm_confluence.specs.Stuck.Shapes.{Shape}
 use Rattle.qm_ideal.specs.Meetings.{Stand, stand_of, shape_next, gone}
 use Rattle.qm_ideal.proofs.MeetingLemmas.{left_same, next_same}
 use Rattle.qm_print.specs.declared.blocks.Place.{Place}
 use Rattle.qm_print.specs.Blocks.{row_name, event_name, event_line, event_lines}
 use Rattle.qm_print.specs.Walks.{first_place, place_at, event_in, event_at, place_after, StandsIn}
-use Rattle.qm_runs.proofs.Tables.Counting.{event_where_held}
+use Rattle.qm_proto.proofs.Counting.{event_where_held}
 
 -- ---- the event that is next
 abbrev event_of : Row → Event
@@ -65,12 +65,6 @@ module _ (p : Programs) (places : List Place) (t : Tables) (r : ℕ) (known : r 
 
   next_event : event_at p r place ≡ option_map event_of (row_next p t r)
   next_event = rw (stands.at r known, stands.stage r known) (row_event p t r (current p t r))
-
-  pub has_event_there : enabled p t r ≡ true → IsSome (event_at p r place)
-  has_event_there able =
-      let w = some_row p t (row_next p t r) able in
-      let e : event_at p r place ≡ Some w.0.event = next_event ∙ ap (option_map event_of) w.1 in
-      rw e refl
 
   pub name_there : (e : Event) → event_at p r place ≡ Some e → row_name (row_next p t r) ≡ event_name e
   name_there e h = name_of_row (row_next p t r) e (sym next_event ∙ h)
@@ -159,9 +153,6 @@ module _ (p : Programs) (schedule : List ℕ) (n : ℕ) (places : List Place) (m
   pub rank_known : rank < length p.ranks
   rank_known = legal_here.0.known
 
-  pub rank_has_event : IsSome (event_at p rank (place_at places rank))
-  rank_has_event = has_event_there p places state.tables rank rank_known walked.stands legal_here.0.able
-
   state_next : fold (next p) (state_at_start p) (take (n + 1) schedule) ≡ next p state rank
   state_next = ap (fold (next p) (state_at_start p)) (take_more schedule n 0 more) ∙ fold_push (next p) (state_at_start p) (take n schedule) rank
 
@@ -189,13 +180,6 @@ first_places zero m k = refl
 first_places (suc n) zero k = refl
 first_places (suc n) (suc m) zero = refl
 first_places (suc n) (suc m) (suc k) = first_places n m k
-
-pub StandsIn-start : (p : Programs) (n m : ℕ) → n ≡ length p.ranks → n ≤ m → StandsIn p (take n (replicate m first_place)) (tables_at_start p)
-StandsIn-start p n m all few = record {
-  all = length-take-le n (replicate m first_place) (omega (arith, length-replicate m first_place, few)) ∙ all;
-  at = λ k _. ap (λ (x : Place). x.at) (first_places n m k);
-  stage = λ k _. ap (λ (x : Place). x.stage) (first_places n m k);
-}
 
 -- an instruction's number is small
 pub few_instructions : (p : Programs) (r k : ℕ) (i : Instr) → r < length p.ranks → IsInRange p → instr_at p r k ≡ Some i → k < 100000

@@ -1,5 +1,5 @@
 -- The blocks of a schedule: its turns, and the events of its turns
-use Rattle.std.specs.Prelude.{ℕ, List, [], ◌∷◌, ◌++◌, Option, Some, None, length, codes, decimal}
+use Rattle.std.specs.Prelude.{◌≡◌, ℕ, ◌^◌, ◌<◌, List, [], ◌∷◌, ◌++◌, Option, Some, None, length, codes, decimal, All}
 use Rattle.std.specs.List.{flat_map}
 use Rattle.qm_instr.specs.Programs.{Programs}
 use Rattle.qm_proto.specs.declared.Event.{Event}
@@ -45,6 +45,14 @@ turn_lines schedule = flat_map turn_line schedule
 -- the turns of a schedule
 abbrev pub turns_block : List ℕ → List ℕ
 turns_block schedule = turns_head (length schedule) ++ turn_lines schedule ++ codes "end\n"
+
+-- a rank's number as a block prints it, which has 32 bits
+abbrev pub IsRankNumber : ℕ → Type 0
+IsRankNumber r = r < 2 ^ 32
+
+-- different schedules have different turns blocks
+abbrev pub TurnsLaw : Type 0
+TurnsLaw = (s t : List ℕ) → All IsRankNumber s → All IsRankNumber t → turns_block s ≡ turns_block t → s ≡ t
 
 -- the name of a line of the event table, where there is one
 abbrev pub row_name : Option Row → List ℕ

@@ -6,7 +6,7 @@ use Rattle.qm_denot.specs.declared.Letter.{Letter}
 use Rattle.qm_denot.specs.declared.Letter.TheVariants.{Phase, Flip, Had, Cx, Cz, Pair, Keep, Take, Rename}
 use Rattle.qm_instr.specs.Programs.{Programs}
 use Rattle.qm_proto.specs.Model.Schedules.{protocol_total}
-use Rattle.qm_bits.specs.Numbers.{number_of_bits}
+use Rattle.qm_instr.specs.Bits.{number_of_bits}
 use Rattle.qm_ideal.specs.OneCircuits.{OneView, bits_of, slot_of}
 use Rattle.qm_print.specs.Bits.{bits_lines}
 use Rattle.qm_print.specs.Slots.{full_slots, slot_lines, wire_text}

@@ -9,7 +9,7 @@ use Rattle.qm_denot.specs.Circuits.{Amplitudes, Circuit}
 use Rattle.qm_denot.specs.Stores.{IsReducedForm}
 use Rattle.qm_instr.specs.Programs.{Programs}
 use Rattle.qm_proto.specs.Model.Schedules.{protocol_total}
-use Rattle.qm_bits.specs.Numbers.{number_of_bits}
+use Rattle.qm_instr.specs.Bits.{number_of_bits}
 use Rattle.qm_print.specs.declared.Live.{Live}
 use Rattle.qm_print.specs.Slots.{full_slots, slots_text}
 use Rattle.qm_print.specs.Bits.{bits_lines}

@@ -3,7 +3,7 @@ ghost use Rattle.std.specs.Prelude.{◌<◌, ◌≤◌, ◌≡◌, ◌++◌, len
 ghost use Rattle.qm_io.specs.Ends.{Puts};
 ghost use Rattle.qm_instr.specs.Programs.{IsInRange};
 ghost use Rattle.qm_proto.specs.Model.Schedules.{IsLegal, IsLegalFrom, state_at_start, tables_at_start};
-ghost use Rattle.qm_print.specs.Blocks.{event_line, event_lines, event_name, trace_block, turn_line, turn_lines, turns_block, turns_head};
+ghost use Rattle.qm_print.specs.Blocks.{event_line, event_lines, event_name, TurnsLaw, trace_block, turn_line, turn_lines, turns_block, turns_head};
 ghost use Rattle.qm_print.specs.Gathering.{Gathers};
 ghost use Rattle.qm_print.specs.Walks.{StandsIn, event_at, place_after};
 
@@ -124,6 +124,11 @@ pub fn put_turns<O: Sink>(sink: &mut O, schedule: &[u32]) -> Result<(), Failed>
     add_turns(&mut page, sink, schedule)?;
     page.write_out(sink)
 }
+
+/// Different schedules have different turns blocks, so a schedule can be read off its block.
+pub fn turns_law()
+    ensures { TurnsLaw }
+{}
 
 /// Adds the line of a turn with its event.
 fn add_event<O: Sink>(page: &mut Page, sink: &mut O, rank: u32, event: Event) -> Result<(), Failed>

@@ -2,7 +2,7 @@
 ghost use Rattle.std.specs.Prelude.{◌<◌, ◌≤◌, ◌≡◌, ◌++◌, length};
 ghost use Rattle.qm_io.specs.Ends.{Puts};
 ghost use Rattle.qm_instr.specs.Programs.{rank_of};
-ghost use Rattle.qm_bits.specs.Numbers.{number_of_bits};
+ghost use Rattle.qm_instr.specs.Bits.{number_of_bits};
 ghost use Rattle.qm_ideal.specs.OneCircuits.{IsOneCircuit, bits_of, slot_of};
 ghost use Rattle.qm_print.specs.Bits.{bits_lines};
 ghost use Rattle.qm_print.specs.CircuitText.{circuit_head, circuit_text, letter_line, letter_lines, letters_head, one_line, outcome_text, phase_line, projection_line, two_line};

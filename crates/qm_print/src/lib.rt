@@ -1,7 +1,7 @@
 //! The texts that commands write. Each is gathered on a page of fixed size, and no call takes memory.
 //!
 //! Every call writes all of its text and leaves the sink's count of faults as it was, or answers `Failed`: then the sink has taken a
-//! front of the text, its count rose, and nothing more was called on it.
+//! front of the text, and its count rose.
 #![tactic(auto)]
 
 mod blocks;
@@ -14,15 +14,11 @@ mod lines;
 mod page;
 mod state;
 
-pub use blocks::{put_trace, put_turns};
+pub use blocks::{put_trace, put_turns, turns_law};
 pub use check::put_check;
 pub use circuit::put_circuit;
 pub use fault::put_fault;
 pub use job::{put_bytes, put_job};
-
-#[cfg(test)]
-mod tests;
-
 use qm_check::Fault;
 use qm_denot::Wire;
 use qm_limits::MOST_RANKS;
@@ -33,7 +29,7 @@ pub use state::{count_lines, put_state};
 pub const RANKS: usize = MOST_RANKS as usize;
 
 /// What a state text says before its full slots.
-#[derive(Clone, Copy, PartialEq, Eq, Debug)]
+#[derive(Clone, Copy)]
 pub struct Head {
     /// How many ranks there are, at most [`MOST_RANKS`].
     pub ranks: u16,
@@ -46,7 +42,7 @@ pub struct Head {
 }
 
 /// A full qubit slot of a rank, and the wire in it.
-#[derive(Clone, Copy, PartialEq, Eq, Debug)]
+#[derive(Clone, Copy)]
 pub struct Live {
     pub rank: u16,
     pub slot: u8,
@@ -54,7 +50,7 @@ pub struct Live {
 }
 
 /// What a job text says of a run.
-#[derive(Clone, Copy, PartialEq, Eq, Debug)]
+#[derive(Clone, Copy)]
 pub struct JobNumbers {
     /// The size of the made program.
     pub size: u32,

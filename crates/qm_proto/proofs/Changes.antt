@@ -78,6 +78,3 @@ with_lane-elsewhere f a v b ne = by_lane (λ x. x ≡ f b) f a v b (λ e. absurd
 -- ---- and facts of the function that the change keeps
 pub with_at-keeps : {A B : Type 0} (g : A → B) (f : ℕ → A) (r : ℕ) (v : A) → g v ≡ g (f r) → (k : ℕ) → g (with_at f r v k) ≡ g (f k)
 with_at-keeps g f r v e k = by_rank (λ x. g x ≡ g (f k)) f r v k (λ s. e ∙ ap (λ j. g (f j)) (sym s)) (λ _. refl)
-
-pub with_lane-keeps : {A B : Type 0} (g : A → B) (f : Lane → A) (a : Lane) (v : A) → g v ≡ g (f a) → (b : Lane) → g (with_lane f a v b) ≡ g (f b)
-with_lane-keeps g f a v e b = by_lane (λ x. g x ≡ g (f b)) f a v b (λ s. e ∙ ap (λ c. g (f c)) (sym s)) (λ _. refl)

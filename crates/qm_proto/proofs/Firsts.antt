@@ -1,5 +1,5 @@
 -- The run that steps the lowest enabled rank: it is legal, it is built one entry at a time, and the programs determine it
-use Rattle.std.proofs.Common.{◌≡◌, ℕ, ◌<◌, ◌⊎◌, Bool, true, false, List, [], ◌∷◌, ◌++◌, refl, ap, ◌∙◌, inl, inr, arith}
+use Rattle.std.proofs.Common.{◌≡◌, ℕ, ◌<◌, ◌⊎◌, Bool, true, false, List, [], ◌∷◌, refl, ap, ◌∙◌, inl, inr, arith}
 use Rattle.std.specs.List.{fold}
 use Rattle.qm_instr.specs.Programs.{Programs}
 use Rattle.qm_proto.specs.declared.Cause.{Cause}
@@ -101,31 +101,6 @@ first_parts p rs a = first_from_parts p (state_at_start p) rs a
 
 pub first_legal : (p : Programs) (rs : List ℕ) → IsFirst p rs → IsLegal p rs
 first_legal p rs a = first_so_far-legal p rs (first_parts p rs a).0
-
-from_so_far : (p : Programs) (s : State) (rs : List ℕ) → IsFirstSoFarFrom p s rs → IsFirstEnd p (fold (next p) s rs) → IsFirstFrom p s rs
-from_so_far p s [] a end = end
-from_so_far p s (r ∷ rs) a end = (a.0, a.1, from_so_far p (next p s r) rs a.2 end)
-
--- where what the run has done so far leaves an end, it is the whole run
-pub first_so_far-end : (p : Programs) (rs : List ℕ) → IsFirstSoFar p rs → IsFirstEnd p (replay p rs) → IsFirst p rs
-unfolding IsFirst IsFirstSoFar replay
-first_so_far-end p rs a end = from_so_far p (state_at_start p) rs a end
-
-so_far_from-push : (p : Programs) (s : State) (rs : List ℕ) (r : ℕ) → IsFirstSoFarFrom p s rs
-    → IsLowestEnabled p (fold (next p) s rs).tables r → IsAllowed p (fold (next p) s rs) r → IsFirstSoFarFrom p s (rs ++ r ∷ [])
-so_far_from-push p s [] r a low allowed = (low, allowed, tt)
-so_far_from-push p s (x ∷ rs) r a low allowed = (a.0, a.1, so_far_from-push p (next p s x) rs r a.2 low allowed)
-
--- before the first entry
-pub first_so_far-start : (p : Programs) → IsFirstSoFar p []
-unfolding IsFirstSoFar
-first_so_far-start p = tt
-
--- one entry more
-pub first_so_far-push : (p : Programs) (rs : List ℕ) (r : ℕ) → IsFirstSoFar p rs
-    → IsLowestEnabled p (replay p rs).tables r → IsAllowed p (replay p rs) r → IsFirstSoFar p (rs ++ r ∷ [])
-unfolding IsFirstSoFar replay
-first_so_far-push p rs r a low allowed = so_far_from-push p (state_at_start p) rs r a low allowed
 
 -- so do they, and the tables at its beginning, determine the run with letters left aside
 pub meeting_unique : (p : Programs) (t : Tables) (xs ys : List ℕ) → IsMeetingFrom p t xs → IsMeetingFrom p t ys → xs ≡ ys

@@ -4,7 +4,7 @@ use Rattle.std.proofs.Common.{◌≡◌, ℕ, false, List, [], ◌∷◌, ◌++�
 use Rattle.qm_instr.specs.declared.Instr.{Instr}
 use Rattle.qm_instr.specs.declared.Lane.{Lane}
 use Rattle.qm_instr.specs.Programs.{Programs}
-use Rattle.qm_proto.specs.Model.Ideal.{IdealTables, IdealState, may_do, ideal_current, ideal_enabled, ideal_next, IsIdealFrom, has_instr}
+use Rattle.qm_proto.specs.Model.Ideal.{IdealTables, IdealState, instr_enabled, ideal_current, ideal_enabled, ideal_next, IsIdealFrom, has_instr}
 
 pub tables_same : (t u : IdealTables) → ((r : ℕ) → t.parts r ≡ u.parts r) → ((r q : ℕ) → t.slots r q ≡ u.slots r q)
     → ((a : Lane) → t.lanes a ≡ u.lanes a) → t ≡ u
@@ -30,6 +30,6 @@ module _ (p : Programs) where
   pub done_not_enabled : (t : IdealTables) (r : ℕ) → has_instr p t r ≡ false → ideal_enabled p t r ≡ false
   done_not_enabled t r none = by_current (ideal_current p t r) none
     where
-      by_current : (o : Option Instr) → is_some o ≡ false → may_do p t r o ≡ false
+      by_current : (o : Option Instr) → is_some o ≡ false → instr_enabled p t r o ≡ false
       by_current None e = refl
       by_current (Some i) e = cc

@@ -1,9 +1,11 @@
-pub mod Messages
+mod Messages
 pub mod Meetings
 pub mod WorkedRuns
-pub mod Orders
+mod Unreducing
 pub mod Firsts
-pub mod WorkedWaits
+mod WorkedWaits
+mod WorkedGates
+mod WorkedTurns
 pub mod ActLists
 pub mod Replays
 pub mod IdealRuns
@@ -13,3 +15,6 @@ pub mod TidyChanges
 pub mod TidyLanes
 pub mod TidyActs
 pub mod Positions
+pub mod Lines
+pub mod Sums
+pub mod Counting

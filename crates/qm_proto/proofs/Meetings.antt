@@ -99,3 +99,19 @@ first_where_allowed p rs m a = first_from_meeting p (state_at_start p) rs m a
 pub legal_where_allowed : (p : Programs) (rs : List ℕ) → IsMeetingFrom p (tables_at_start p) rs → AllAllowed p (state_at_start p) rs → IsLegal p rs
 unfolding IsLegal
 legal_where_allowed p rs m a = legal_from_meeting p (state_at_start p) rs m a
+
+-- whether each of the ranks is enabled when its turn comes
+abbrev pub are_enabled : Programs → Tables → List ℕ → Bool
+are_enabled p t [] = true
+are_enabled p t (r ∷ rs) = nat_lt r (length p.ranks) && (enabled p t r && are_enabled p (next_tables p t r) rs)
+
+legal_from_enabled : (p : Programs) (s : State) (rs : List ℕ) → are_enabled p s.tables rs ≡ true → AllAllowed p s rs → IsLegalFrom p s rs
+legal_from_enabled p s [] e a = tt
+legal_from_enabled p s (r ∷ rs) e a =
+    let known = and_parts (nat_lt r (length p.ranks)) (enabled p s.tables r && are_enabled p (next_tables p s.tables r) rs) e in
+    let able = and_parts (enabled p s.tables r) (are_enabled p (next_tables p s.tables r) rs) known.1 in
+    (record { known = ltb-true _ _ known.0; able = able.0; allowed = a.0 }, legal_from_enabled p (next p s r) rs able.1 a.1)
+
+pub legal_where_enabled : (p : Programs) (rs : List ℕ) → are_enabled p (tables_at_start p) rs ≡ true → AllAllowed p (state_at_start p) rs → IsLegal p rs
+unfolding IsLegal
+legal_where_enabled p rs e a = legal_from_enabled p (state_at_start p) rs e a

@@ -7,13 +7,13 @@ use Rattle.qm_denot.specs.Wires.{is_wire, put, no_wires}
 use Rattle.qm_denot.specs.Circuits.{IsEqualUpTo}
 use Rattle.qm_denot.specs.WorkedCircuits.{Shows}
 use Rattle.qm_denot.proofs.Listed.{shows}
-use Rattle.qm_proto.specs.WorkedMessages.{q, f, exchanged, WorkedMessages}
+use Rattle.qm_proto.specs.WorkedMessages.{q, f, exchanged_letters, WorkedMessages}
 
 -- the second of two numbers
 pub second : (a b c d : Number) → a ∷ b ∷ [] ≡ c ∷ d ∷ [] → b ≡ d
 second a b c d e = cc
 
-exchange : Shows (Flip q ∷ exchanged true false) (f ∷ []) (one_number ∷ zero_number ∷ []) 2
+exchange : Shows (Flip q ∷ exchanged_letters true false) (f ∷ []) (one_number ∷ zero_number ∷ []) 2
 unfolding is_wire plus minus turned negative
 exchange = shows _ _ _ _ refl refl
 
@@ -24,7 +24,7 @@ renamed = shows _ _ _ _ refl refl
 one_is_not_zero : zero_number ≡ one_number → ⊥
 one_is_not_zero e = let parts : pos 0 ≡ pos 1 = ap (λ (z : Number). z.a) e in cc
 
-exchange_differs : IsEqualUpTo 2 (Flip q ∷ exchanged true false) (Flip q ∷ Rename q f ∷ []) → ⊥
+exchange_differs : IsEqualUpTo 2 (Flip q ∷ exchanged_letters true false) (Flip q ∷ Rename q f ∷ []) → ⊥
 exchange_differs equal =
     let left = second _ _ _ _ exchange.amplitudes in
     let right = second _ _ _ _ renamed.amplitudes in

@@ -9,8 +9,8 @@ use Rattle.qm_instr.specs.Programs.{Programs}
 use Rattle.qm_proto.specs.Model.State.{Part, Tables, with_at, with_part, front, far_made, near_made, near_last}
 use Rattle.qm_proto.specs.declared.Act.{Act}
 use Rattle.qm_proto.specs.declared.Act.TheVariants.{Fresh, Twin, Apply, SlotOut, NearOut, FarOut, Settle, Posts, Fills, Receives, OwnUsed, ProtocolUsed, FirstKept, BitSet}
-use Rattle.qm_proto.specs.Model.Acts.{counted, more_at, less_at, done, all_done}
-use Rattle.qm_proto.specs.Model.Rows.{half}
+use Rattle.qm_proto.specs.Model.Acts.{with_one_counted, more_at, less_at, after_act, after_acts}
+use Rattle.qm_proto.specs.Model.Rows.{half_parcel}
 use Rattle.qm_proto.specs.Model.Schedules.{tables_at_start}
 use Rattle.qm_proto.specs.Model.Places.{Place, InSlot, NearOf, FarOf, IsAt, IsPlaced, IsOnlyAt}
 use Rattle.qm_proto.specs.May.{MaySettle}
@@ -65,13 +65,13 @@ tidy_part t r x tidy e = tidy_part_above t r x tidy (omega arith)
 -- ---- a wire is counted and comes to its place
 module _ (r : ℕ) (t : Tables) (tidy : IsTidy t) where
   abbrev counting : Tables
-  counting = with_part t r (counted (t.parts r))
+  counting = with_part t r (with_one_counted (t.parts r))
 
   counted_more : (counting.parts r).made ≡ (t.parts r).made + 1
-  counted_more = ap (λ (x : Part). x.made) (with_at-here t.parts r (counted (t.parts r)))
+  counted_more = ap (λ (x : Part). x.made) (with_at-here t.parts r (with_one_counted (t.parts r)))
 
   tidy_counting : IsTidy counting
-  tidy_counting = tidy_part_above t r (counted (t.parts r)) tidy (omega arith)
+  tidy_counting = tidy_part_above t r (with_one_counted (t.parts r)) tidy (omega arith)
 
   still_absent : (w : Wire) → ¬ IsPlaced t w → ¬ IsPlaced counting w
   still_absent w absent (InSlot k p, h) = absent (InSlot k p, h)
@@ -87,7 +87,7 @@ module _ (r : ℕ) (t : Tables) (tidy : IsTidy t) where
   below : (t.parts r).made < (counting.parts r).made
   below = let e = counted_more in omega arith
 
-  pub tidy_fresh : (q : ℕ) → IsTidy (done r (Fresh q) t)
+  pub tidy_fresh : (q : ℕ) → IsTidy (after_act r (Fresh q) t)
   tidy_fresh q = tidy_filled counting tidy_counting (far_made t r) far_absent below r q
 
   far_after_near : ¬ IsPlaced (near_more counting r (near_made t r)) (far_made t r)
@@ -119,7 +119,7 @@ tidy_settled r f q t tidy hand =
         let none = lacks_gone (t.far r) f in cc
 
 -- ---- every act
-pub tidy_done : (r : ℕ) (act : Act) (t : Tables) → IsTidy t → KeepsTidy r act t → IsTidy (done r act t)
+pub tidy_done : (r : ℕ) (act : Act) (t : Tables) → IsTidy t → KeepsTidy r act t → IsTidy (after_act r act t)
 tidy_done r (Fresh q) t tidy keeps = tidy_fresh r t tidy q
 tidy_done r (Twin to) t tidy keeps = tidy_counts (twin_places r t tidy to) (more_at (more_at t.held r) to) (tidy_twin r t tidy to)
 tidy_done r (Apply l) t tidy keeps = tidy
@@ -139,15 +139,15 @@ tidy_done r (BitSet b v) t tidy keeps = tidy_part t r (record (t.parts r) { bits
 -- and acts one after another
 abbrev pub AllKeepTidy : ℕ → List Act → Tables → Type 0
 AllKeepTidy r [] t = Unit {0}
-AllKeepTidy r (a ∷ acts) t = KeepsTidy r a t × AllKeepTidy r acts (done r a t)
+AllKeepTidy r (a ∷ acts) t = KeepsTidy r a t × AllKeepTidy r acts (after_act r a t)
 
-pub tidy_all_done : (r : ℕ) (acts : List Act) (t : Tables) → IsTidy t → AllKeepTidy r acts t → IsTidy (all_done r acts t)
+pub tidy_all_done : (r : ℕ) (acts : List Act) (t : Tables) → IsTidy t → AllKeepTidy r acts t → IsTidy (after_acts r acts t)
 tidy_all_done r [] t tidy keeps = tidy
-tidy_all_done r (a ∷ acts) t tidy keeps = tidy_all_done r acts (done r a t) (tidy_done r a t tidy keeps.0) keeps.1
+tidy_all_done r (a ∷ acts) t tidy keeps = tidy_all_done r acts (after_act r a t) (tidy_done r a t tidy keeps.0) keeps.1
 
 -- ---- what an act leaves for the next in its line of the table
 -- a parcel that was received has its half in hand
-pub received_in_hand : (t : Tables) (a : Lane) (f : Wire) → IsTidy t → (front t a).wire ≡ Some f → IsInHand (done a.to (Receives a) t) a.to f
+pub received_in_hand : (t : Tables) (a : Lane) (f : Wire) → IsTidy t → (front t a).wire ≡ Some f → IsInHand (after_act a.to (Receives a) t) a.to f
 received_in_hand t a f tidy e =
     record {
       half = tidy.carried a 0 f (front_carried t a f e);
@@ -155,10 +155,10 @@ received_in_hand t a f tidy e =
     }
 
 -- the new far half may be posted to its rank
-pub twin_postable : (r to : ℕ) (t : Tables) (a : Lane) → IsTidy t → a.to ≡ to → IsPostable (done r (Twin to) t) a (half (far_made t r))
+pub twin_postable : (r to : ℕ) (t : Tables) (a : Lane) → IsTidy t → a.to ≡ to → IsPostable (after_act r (Twin to) t) a (half_parcel (far_made t r))
 twin_postable r to t a tidy e =
     record {
-      half = λ w s. subst (λ v. has ((done r (Twin to) t).far a.to) v ≡ true) (same_Some (far_made t r) w s) there;
+      half = λ w s. subst (λ v. has ((after_act r (Twin to) t).far a.to) v ≡ true) (same_Some (far_made t r) w s) there;
       free = λ w s (c, k, h). far_made_absent t tidy r (
         FarOf c.to,
         subst (λ v. has (t.far c.to) v ≡ true) (sym (same_Some (far_made t r) w s))
@@ -166,5 +166,5 @@ twin_postable r to t a tidy e =
       );
     }
   where
-    there : has ((done r (Twin to) t).far a.to) (far_made t r) ≡ true
+    there : has ((after_act r (Twin to) t).far a.to) (far_made t r) ≡ true
     there = rw (e, with_at-here t.far to (put (t.far to) (far_made t r) true)) (has_new (t.far to) (far_made t r))

@@ -40,12 +40,12 @@ first_had_fits w (u, k, form, (x, off, unfit)) =
     unfit (rw (same x, same (put x w true)) (small_fit (is_empty x) (is_empty (put x w true))))
 
 -- what is left to compute for a run
-leaves : (p : Programs) (rs : List ℕ) (c : Circuit) → is_meeting p rs ≡ true
+pub leaves : (p : Programs) (rs : List ℕ) (c : Circuit) → is_meeting p rs ≡ true
     → none_below (has_event p (replay p rs).tables) (length p.ranks) ≡ true → (replay p rs).circuit ≡ c → Leaves p rs c
 leaves p rs c lowest ended circuit =
     record { lowest = meeting p rs lowest; ended = false_below _ _ ended; circuit = circuit }
 
-is_one : (p : Programs) (rs : List ℕ) (c : Circuit) → is_one_run p rs ≡ true
+pub is_one : (p : Programs) (rs : List ℕ) (c : Circuit) → is_one_run p rs ≡ true
     → none_below (has_instr p (ideal_replay p rs).tables) (length p.ranks) ≡ true → (ideal_replay p rs).circuit ≡ c → IsOne p rs c
 is_one p rs c lowest done circuit = record { lowest = one_run p rs lowest; done = false_below _ _ done; circuit = circuit }
 
@@ -171,4 +171,5 @@ worked_ideal =
       copy_width = refl;
       move_width = refl;
       unnamed_width = refl;
+      taken_width = refl;
     }

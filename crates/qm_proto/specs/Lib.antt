@@ -5,4 +5,6 @@ pub mod Model
 pub mod May
 pub mod WorkedPrograms
 pub mod WorkedRun
+pub mod WorkedGates
 pub mod WorkedWaits
+pub mod WorkedTurns

@@ -10,7 +10,7 @@ use Rattle.qm_denot.specs.Parcels.{IsFillable}
 use Rattle.qm_proto.specs.Model.State.{Tables, far_made, near_made, near_last, front}
 use Rattle.qm_proto.specs.declared.Act.{Act}
 use Rattle.qm_proto.specs.declared.Act.TheVariants.{Fresh, Twin, Apply, SlotOut, NearOut, FarOut, Settle, Posts, Fills, Receives, OwnUsed, ProtocolUsed, FirstKept, BitSet}
-use Rattle.qm_proto.specs.Model.Acts.{done}
+use Rattle.qm_proto.specs.Model.Acts.{after_act}
 use Rattle.qm_proto.specs.declared.Check.{Check}
 use Rattle.qm_proto.specs.declared.Check.TheVariants.{Possible, Zero, Equal, Fits}
 use Rattle.qm_proto.specs.Model.Places.{Place, InSlot, NearOf, FarOf, IsPlaced, IsOnlyAt, IsOwn}
@@ -86,21 +86,21 @@ pub record MaySettle (r : ℕ) (f : Wire) (q : ℕ) (t : Tables) : Type 0 where
   pub empty : t.slots r q ≡ None
 
 -- rank r may do the act
-abbrev pub MayDo : Limits → ℕ → Act → Tables → Type 0
-MayDo s r (Fresh q) t = MayFresh s r q t
-MayDo s r (Twin to) t = MayTwin s r to t
-MayDo s r (Apply l) t = MayLetter r l t × (1 ≤ s.letters)
-MayDo s r (SlotOut q m) t = MaySlotOut s r q t
-MayDo s r (NearOut m) t = MayHalfOut s (near_last t r) (NearOf r) t
-MayDo s r (FarOut f m) t = MayHalfOut s f (FarOf r) t
-MayDo s r (Settle f q) t = MaySettle r f q t
-MayDo s r (Posts a x) t = length (t.lanes a) < s.parcels a
-MayDo s r (Fills a b) t = IsFillable (t.lanes a)
-MayDo s r (Receives a) t = (front t a).bits ≢ None
-MayDo s r OwnUsed t = 0 < length (t.parts r).own
-MayDo s r ProtocolUsed t = 0 < length (t.parts r).protocol
-MayDo s r (FirstKept m) t = Unit {0}
-MayDo s r (BitSet b v) t = b < BITS
+abbrev pub MayDoAct : Limits → ℕ → Act → Tables → Type 0
+MayDoAct s r (Fresh q) t = MayFresh s r q t
+MayDoAct s r (Twin to) t = MayTwin s r to t
+MayDoAct s r (Apply l) t = MayLetter r l t × (1 ≤ s.letters)
+MayDoAct s r (SlotOut q m) t = MaySlotOut s r q t
+MayDoAct s r (NearOut m) t = MayHalfOut s (near_last t r) (NearOf r) t
+MayDoAct s r (FarOut f m) t = MayHalfOut s f (FarOf r) t
+MayDoAct s r (Settle f q) t = MaySettle r f q t
+MayDoAct s r (Posts a x) t = length (t.lanes a) < s.parcels a
+MayDoAct s r (Fills a b) t = IsFillable (t.lanes a)
+MayDoAct s r (Receives a) t = (front t a).bits ≢ None
+MayDoAct s r OwnUsed t = 0 < length (t.parts r).own
+MayDoAct s r ProtocolUsed t = 0 < length (t.parts r).protocol
+MayDoAct s r (FirstKept m) t = Unit {0}
+MayDoAct s r (BitSet b v) t = b < BITS
 
 -- what an act leaves of the limits
 abbrev pub limits_after : Act → Limits → Limits
@@ -119,7 +119,7 @@ limits_after_all (a ∷ acts) s = limits_after_all acts (limits_after a s)
 -- rank r may do the acts, one after another
 abbrev pub AllMay : Limits → ℕ → List Act → Tables → Type 0
 AllMay s r [] t = Unit {0}
-AllMay s r (a ∷ acts) t = MayDo s r a t × AllMay (limits_after a s) r acts (done r a t)
+AllMay s r (a ∷ acts) t = MayDoAct s r a t × AllMay (limits_after a s) r acts (after_act r a t)
 
 -- the wires of a test have places, and differ
 abbrev pub MayCheck : Tables → Check → Type 0

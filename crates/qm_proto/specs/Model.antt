@@ -4,6 +4,7 @@ pub mod Acts
 pub mod Rows
 pub mod Runs
 pub mod Schedules
+pub mod Totals
 pub mod Places
 pub mod Tidy
 pub mod Ideal

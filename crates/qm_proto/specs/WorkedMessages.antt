@@ -24,34 +24,34 @@ abbrev pub t : Wire
 t = record { rank = 1; made = 0; near = false }
 
 -- the numbers 0, 1 and omega
-abbrev O : Number
+abbrev pub O : Number
 O = zero_number
 
-abbrev I : Number
+abbrev pub I : Number
 I = one_number
 
 abbrev omega : Number
 omega = number (pos 0) (pos 1) (pos 0) (pos 0)
 
 -- q after Had and a turn: 1 and omega
-abbrev turned : List Letter
-turned = Had q ∷ Phase 1 q ∷ []
+abbrev turned_letters : List Letter
+turned_letters = Had q ∷ Phase 1 q ∷ []
 
 -- a move of q to f with its two corrections exchanged: f is flipped by the outcome on q, and its sign changed by the one on e
-abbrev pub exchanged : Bool → Bool → List Letter
-exchanged m n = Pair e f ∷ Cx q e ∷ Had q ∷ Take e m ∷ Take q n ∷ (letter_if n (Flip f) ++ letter_if m (Phase 4 f))
+abbrev pub exchanged_letters : Bool → Bool → List Letter
+exchanged_letters m n = Pair e f ∷ Cx q e ∷ Had q ∷ Take e m ∷ Take q n ∷ (letter_if n (Flip f) ++ letter_if m (Phase 4 f))
 
 -- both sides of each law show the same amplitudes, the messages' outcomes as more halvings
 pub record WorkedMessages : Type 0 where
-  pub copy : Shows (turned ++ copying q e f true) (q ∷ e ∷ f ∷ []) (I ∷ O ∷ O ∷ O ∷ O ∷ omega ∷ O ∷ O ∷ []) 2
-  pub copied : Shows (turned ++ Cx q f ∷ []) (q ∷ e ∷ f ∷ []) (I ∷ O ∷ O ∷ O ∷ O ∷ omega ∷ O ∷ O ∷ []) 1
-  pub uncopy : Shows ((turned ++ Cx q f ∷ []) ++ uncopying q f true) (q ∷ f ∷ []) (I ∷ O ∷ omega ∷ O ∷ []) 2
-  pub uncopied : Shows ((turned ++ Cx q f ∷ []) ++ Cx q f ∷ Take f false ∷ []) (q ∷ f ∷ []) (I ∷ O ∷ omega ∷ O ∷ []) 1
-  pub move : Shows (turned ++ moving q e f true false) (q ∷ e ∷ f ∷ []) (I ∷ omega ∷ O ∷ O ∷ O ∷ O ∷ O ∷ O ∷ []) 3
-  pub moved : Shows (turned ++ Rename q f ∷ []) (q ∷ e ∷ f ∷ []) (I ∷ omega ∷ O ∷ O ∷ O ∷ O ∷ O ∷ O ∷ []) 1
-  pub reach : Shows (turned ++ reaching q e f t true true) (q ∷ f ∷ t ∷ []) (I ∷ O ∷ O ∷ O ∷ O ∷ omega ∷ O ∷ O ∷ []) 3
-  pub reached : Shows (turned ++ Cx q t ∷ []) (q ∷ f ∷ t ∷ []) (I ∷ O ∷ O ∷ O ∷ O ∷ omega ∷ O ∷ O ∷ []) 1
+  pub copy : Shows (turned_letters ++ copying q e f true) (q ∷ e ∷ f ∷ []) (I ∷ O ∷ O ∷ O ∷ O ∷ omega ∷ O ∷ O ∷ []) 2
+  pub copied : Shows (turned_letters ++ Cx q f ∷ []) (q ∷ e ∷ f ∷ []) (I ∷ O ∷ O ∷ O ∷ O ∷ omega ∷ O ∷ O ∷ []) 1
+  pub uncopy : Shows ((turned_letters ++ Cx q f ∷ []) ++ uncopying q f true) (q ∷ f ∷ []) (I ∷ O ∷ omega ∷ O ∷ []) 2
+  pub uncopied : Shows ((turned_letters ++ Cx q f ∷ []) ++ Cx q f ∷ Take f false ∷ []) (q ∷ f ∷ []) (I ∷ O ∷ omega ∷ O ∷ []) 1
+  pub move : Shows (turned_letters ++ moving q e f true false) (q ∷ e ∷ f ∷ []) (I ∷ omega ∷ O ∷ O ∷ O ∷ O ∷ O ∷ O ∷ []) 3
+  pub moved : Shows (turned_letters ++ Rename q f ∷ []) (q ∷ e ∷ f ∷ []) (I ∷ omega ∷ O ∷ O ∷ O ∷ O ∷ O ∷ O ∷ []) 1
+  pub reach : Shows (turned_letters ++ reaching q e f t true true) (q ∷ f ∷ t ∷ []) (I ∷ O ∷ O ∷ O ∷ O ∷ omega ∷ O ∷ O ∷ []) 3
+  pub reached : Shows (turned_letters ++ Cx q t ∷ []) (q ∷ f ∷ t ∷ []) (I ∷ O ∷ O ∷ O ∷ O ∷ omega ∷ O ∷ O ∷ []) 1
   -- of q as one the exchanged corrections make f zero, which is no renaming
-  pub exchange : Shows (Flip q ∷ exchanged true false) (f ∷ []) (I ∷ O ∷ []) 2
+  pub exchange : Shows (Flip q ∷ exchanged_letters true false) (f ∷ []) (I ∷ O ∷ []) 2
   pub renamed : Shows (Flip q ∷ Rename q f ∷ []) (f ∷ []) (O ∷ I ∷ []) 0
-  pub exchange_differs : ¬ (IsEqualUpTo 2 (Flip q ∷ exchanged true false) (Flip q ∷ Rename q f ∷ []))
+  pub exchange_differs : ¬ (IsEqualUpTo 2 (Flip q ∷ exchanged_letters true false) (Flip q ∷ Rename q f ∷ []))

@@ -1,6 +1,5 @@
 -- Runs that were worked out by hand, of the machine and of the ideal machine
 use Rattle.std.specs.Prelude.{◌≡◌, ℕ, Bool, true, false, not, List, [], ◌∷◌, ◌++◌, Some, map}
-use Rattle.qm_zomega.specs.Numbers.{Number, zero_number, one_number}
 use Rattle.qm_denot.specs.declared.Wire.{Wire}
 use Rattle.qm_denot.specs.declared.Letter.{Letter}
 use Rattle.qm_denot.specs.declared.Letter.TheVariants.{Flip, Had, Cx, Pair, Keep, Take, Rename}
@@ -10,7 +9,7 @@ use Rattle.qm_denot.specs.WorkedCircuits.{Shows}
 use Rattle.qm_instr.specs.declared.Instr.{Instr}
 use Rattle.qm_instr.specs.Programs.{Programs}
 use Rattle.qm_proto.specs.Events.{events_in}
-use Rattle.qm_proto.specs.WorkedMessages.{q, e, f, t}
+use Rattle.qm_proto.specs.WorkedMessages.{q, e, f, t, O, I}
 use Rattle.qm_proto.specs.WorkedPrograms.{copy_programs, uncopy_programs, move_programs, reach_programs, bit_programs, crossed_programs, waiting_programs}
 use Rattle.qm_proto.specs.Model.State.{Tables, bit_of}
 use Rattle.qm_proto.specs.declared.Row.{Row}
@@ -22,13 +21,6 @@ use Rattle.qm_proto.specs.Model.Schedules.{tables_at_start, replay, AllEnded, Is
 -- the schedule of the copy that always takes the lowest rank that is enabled
 abbrev pub copy_schedule : List ℕ
 copy_schedule = 0 ∷ 0 ∷ 0 ∷ 0 ∷ 0 ∷ 1 ∷ 1 ∷ []
-
--- the numbers 0 and 1
-abbrev O : Number
-O = zero_number
-
-abbrev I : Number
-I = one_number
 
 -- what the run leaves: its letters, equal amplitudes where both qubits are zero and where both are one, two halvings, and the far half
 -- in rank 1's slot
@@ -122,6 +114,8 @@ pub record WorkedIdeal : Type 0 where
   pub copy_width : width (Cx q f ∷ Cx q f ∷ Take f false ∷ []) (q ∷ []) ≡ 2
   pub move_width : width (Rename q f ∷ []) (f ∷ []) ≡ 1
   pub unnamed_width : width (Flip q ∷ []) (q ∷ t ∷ []) ≡ 2
+  -- a wire that is taken leaves its room to the next one
+  pub taken_width : width (Flip q ∷ Take q true ∷ Flip t ∷ []) (t ∷ []) ≡ 1
 
 -- the lines of the table have the events of each instruction, in their order
 abbrev pub EventsAgree : Type 0

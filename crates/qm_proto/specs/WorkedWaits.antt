@@ -1,14 +1,14 @@
 -- Who waits for what, worked out by hand: enabled and blocked ranks, halves after each event, stuck states, and refused events
-use Rattle.std.specs.Prelude.{◌≡◌, ℕ, Bool, true, false, List, [], ◌∷◌}
+use Rattle.std.specs.Prelude.{◌≡◌, ℕ, Bool, true, false, not, List, [], ◌∷◌}
 use Rattle.qm_denot.specs.Circuits.{Circuit}
 use Rattle.qm_instr.specs.Programs.{Programs}
 use Rattle.qm_proto.specs.WorkedMessages.{q, f}
-use Rattle.qm_proto.specs.WorkedPrograms.{copy_programs, move_programs, reach_programs, crossed_programs, two_copies_programs, two_undos_programs, two_reaches_programs, waiting_programs, behind_programs, impossible_programs, not_zero_programs, not_equal_programs}
+use Rattle.qm_proto.specs.WorkedPrograms.{copy_programs, move_programs, reach_programs, crossed_programs, two_copies_programs, two_undos_programs, late_source_programs, two_reaches_programs, waiting_programs, behind_programs, measured_programs, not_zero_programs, not_equal_programs}
 use Rattle.qm_proto.specs.WorkedRun.{copy_schedule, move_schedule, reach_schedule}
 use Rattle.qm_proto.specs.declared.Cause.TheVariants as cause
 use Rattle.qm_proto.specs.declared.Check.TheVariants.{Equal, Fits}
 use Rattle.qm_proto.specs.Model.State.{Tables, State}
-use Rattle.qm_proto.specs.Model.Runs.{halves, enabled, Fails, IsRefused, next_tables}
+use Rattle.qm_proto.specs.Model.Runs.{halves, enabled, Fails, IsRefused, IsAllowed, next_tables}
 use Rattle.qm_proto.specs.Model.Ideal.{ideal_replay, ideal_enabled}
 use Rattle.qm_proto.specs.Model.Schedules.{tables_at_start, replay, IsStuck, IsLowestLeft, RendezvousEnds}
 
@@ -67,6 +67,14 @@ pub record WorkedWaits : Type 0 where
   pub ideal_undo_free : ideal_enabled_after two_undos_programs (0 ∷ 0 ∷ 0 ∷ 0 ∷ 1 ∷ 1 ∷ 1 ∷ 0 ∷ []) 1 ≡ true
   pub ideal_reach_blocked : ideal_enabled_after two_reaches_programs (0 ∷ 1 ∷ 1 ∷ []) 1 ≡ false
   pub ideal_reach_free : ideal_enabled_after two_reaches_programs (0 ∷ 1 ∷ 1 ∷ 0 ∷ []) 1 ≡ true
+  -- a rank that gives its copy up waits until the source stands at its `undofrom`, in both machines
+  pub source_elsewhere : enabled_after late_source_programs (0 ∷ 0 ∷ 0 ∷ 0 ∷ 1 ∷ 1 ∷ 1 ∷ []) 1 ≡ false
+  pub source_there : enabled_after late_source_programs (0 ∷ 0 ∷ 0 ∷ 0 ∷ 1 ∷ 1 ∷ 1 ∷ 0 ∷ []) 1 ≡ true
+  pub ideal_source_elsewhere : ideal_enabled_after late_source_programs (0 ∷ 0 ∷ 1 ∷ 1 ∷ []) 1 ≡ false
+  pub ideal_source_there : ideal_enabled_after late_source_programs (0 ∷ 0 ∷ 1 ∷ 1 ∷ 0 ∷ []) 1 ≡ true
+  -- an ideal `reachfrom` waits until its partner stands at the `reachto`
+  pub ideal_partner_elsewhere : ideal_enabled_after two_reaches_programs (1 ∷ []) 1 ≡ false
+  pub ideal_partner_there : ideal_enabled_after two_reaches_programs (1 ∷ 0 ∷ []) 1 ≡ true
   -- with room for one half crossed copies are stuck; with room for two they end (above), though the run with buffers of one doesn't
   pub stuck : IsStuck (crossed_programs 1 1) (replay (crossed_programs 1 1) (0 ∷ 1 ∷ [])).tables
   pub never_meet : ¬ (RendezvousEnds (crossed_programs 2 2))
@@ -77,7 +85,9 @@ pub record WorkedWaits : Type 0 where
 
 -- events that are refused, after these schedules, each for its cause
 pub record WorkedRefusals : Type 0 where
-  pub impossible : IsRefused impossible_programs (replay impossible_programs (0 ∷ [])) 0 cause.Impossible
+  -- a qubit is measured with the outcome that it has, and with the other one
+  pub impossible : (v : Bool) → IsRefused (measured_programs v (not v)) (replay (measured_programs v (not v)) (0 ∷ 0 ∷ 0 ∷ [])) 0 cause.Impossible
+  pub possible : (v : Bool) → IsAllowed (measured_programs v v) (replay (measured_programs v v) (0 ∷ 0 ∷ 0 ∷ [])) 0
   pub not_zero : IsRefused not_zero_programs (replay not_zero_programs (0 ∷ 0 ∷ [])) 0 cause.NotZero
   pub not_equal : IsRefused not_equal_programs (replay not_equal_programs (0 ∷ 0 ∷ 0 ∷ 0 ∷ 1 ∷ 1 ∷ 1 ∷ [])) 1 cause.NotEqual
   -- a copy that differs from its source is refused for that, whatever the numbers

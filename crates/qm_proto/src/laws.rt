@@ -11,8 +11,8 @@ pub fn copy_law()
     ensures { CopyLaw }
 {}
 
-/// An uncopy of `f`, which equals `q` in each branch, with a change of `q`'s sign where the outcome is 1, is a controlled-not of `q` on
-/// `f` that leaves `f` zero and gives it up, up to one division by root2.
+/// An uncopy of `f`, which equals `q` in each branch, changes `q`'s sign where the outcome is 1. It is a controlled-not of `q` on `f`
+/// that leaves `f` zero and gives it up, up to one division by root2.
 pub fn uncopy_law()
     ensures { UncopyLaw }
 {}

@@ -59,7 +59,7 @@ pub enum Cause {
 }
 
 /// What an event waits for.
-#[derive(Clone, Copy, PartialEq, Eq, Debug)]
+#[derive(Clone, Copy)]
 pub enum Rule {
     /// Nothing.
     Always,

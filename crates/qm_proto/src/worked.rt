@@ -1,7 +1,9 @@
 //! Messages and a run that were worked out by hand.
 
+ghost use Rattle.qm_proto.specs.WorkedGates.{WorkedBits, WorkedGates};
 ghost use Rattle.qm_proto.specs.WorkedMessages.{WorkedMessages};
 ghost use Rattle.qm_proto.specs.WorkedRun.{EventsAgree, WorkedIdeal, WorkedRun};
+ghost use Rattle.qm_proto.specs.WorkedTurns.{WorkedTurns};
 ghost use Rattle.qm_proto.specs.WorkedWaits.{WorkedRefusals, WorkedWaits};
 
 /// Both sides of each law have the amplitudes that were worked out by hand, and a move with its corrections exchanged has others.
@@ -19,6 +21,21 @@ fn worked_ideal()
     ensures { WorkedIdeal }
 {}
 
+/// Each gate does the letter that was worked out by hand, in both machines, and under `when` only where the bit is one.
+fn worked_gates()
+    ensures { WorkedGates }
+{}
+
+/// Bits begin, are set, sent and measured as it was worked out by hand, in both machines.
+fn worked_bits()
+    ensures { WorkedBits }
+{}
+
+/// Words choose the ranks that were worked out by hand.
+fn worked_turns()
+    ensures { WorkedTurns }
+{}
+
 /// Ranks wait, hold halves and get stuck where it was worked out by hand.
 fn worked_waits()
     ensures { WorkedWaits }
@@ -33,33 +50,3 @@ fn worked_refusals()
 fn events_agree()
     ensures { EventsAgree }
 {}
-
-#[cfg(test)]
-mod tests {
-    use super::{
-        events_agree, worked_ideal, worked_messages, worked_refusals, worked_run, worked_waits,
-    };
-    use crate::laws::{copy_law, move_law, reach_law, uncopy_law};
-
-    #[test]
-    fn laws_agree_with_the_worked_messages() {
-        worked_messages();
-        copy_law();
-        uncopy_law();
-        move_law();
-        reach_law();
-    }
-
-    #[test]
-    fn model_agrees_with_the_worked_run() {
-        worked_run();
-        worked_ideal();
-        events_agree();
-    }
-
-    #[test]
-    fn model_agrees_with_the_worked_waits_and_refusals() {
-        worked_waits();
-        worked_refusals();
-    }
-}

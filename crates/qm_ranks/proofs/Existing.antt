@@ -7,9 +7,9 @@ use Rattle.qm_proto.specs.Model.Runs.{enabled, row_checks, row_next, IsAllowed}
 use Rattle.qm_proto.specs.Model.Schedules.{replay, IsLegal, MayStep, NoneEnabled}
 use Rattle.qm_proto.specs.Model.Orders.{Words, words_after, start_of, rank_on, IsFirstAround, IsEndAround, IsOrderFrom}
 use Rattle.qm_proto.proofs.Replays.{replay-push, legal-push}
-use Rattle.qm_runs.specs.Tables.Totals.{event_total}
-use Rattle.qm_runs.proofs.Tables.Counting.{schedule_more, event_where_held}
-use Rattle.qm_runs.proofs.Endings.Tests.{tests_fail_or_not}
+use Rattle.qm_proto.specs.Model.Totals.{event_total}
+use Rattle.qm_proto.proofs.Counting.{schedule_more, event_where_held}
+use Rattle.qm_confluence.proofs.Endings.Tests.{tests_fail_or_not}
 use Rattle.qm_ranks.proofs.Around.{comes_to}
 use Rattle.qm_ranks.proofs.Orders.{around_known}
 use Rattle.qm_proto.proofs.Meetings.{same_or_below}

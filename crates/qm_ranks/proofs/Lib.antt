@@ -3,3 +3,8 @@ pub mod Turning
 pub mod Playing
 pub mod Orders
 pub mod Existing
+pub mod Mapped
+pub mod TakingTurns
+pub mod Leaving
+pub mod Finishing
+pub mod NewPasses

@@ -13,6 +13,7 @@ use Rattle.qm_ranks.specs.Plays.{IsOver, GoesOn, Plays, Went, Stood, Turns, Goes
 -- so far the machine has gone on by these entries in the order of the words, and whatever goes on in the order of the words that are left
 -- makes one order with them; a halted machine is as it was
 pub record PlaysSoFar {A : Type 0} (store : A → Store) (old m : MachineView A) (words left : Words) : Type 0 where
+  pub text : m.text ≡ old.text
   pub programs : m.programs ≡ old.programs
   pub running : m.halted ≡ old.halted
   pub stays : old.halted ≢ None → IsSame store old m
@@ -24,9 +25,10 @@ pub record PlaysSoFar {A : Type 0} (store : A → Store) (old m : MachineView A)
 -- before the first turn
 pub nothing_played : {A : Type 0} (store : A → Store) (old : MachineView A) (words : Words) → PlaysSoFar store old old words words
 nothing_played store old words = record {
+  text = refl;
   programs = refl;
   running = refl;
-  stays = λ _. record { programs = refl; schedule = refl; halted = refl; contents = refl };
+  stays = λ _. record { text = refl; programs = refl; schedule = refl; halted = refl; contents = refl };
   more = [];
   schedule = sym (append-nil old.schedule);
   used = λ k. let e : 0 + k ≡ k = omega arith in sym (ap words e);
@@ -54,6 +56,7 @@ module _ {A : Type 0} (store : A → Store) (old m n : MachineView A) (words lef
   -- after a turn in which a rank was stepped
   pub one_more_played : Went m (start_of old.programs left) n → PlaysSoFar store old n words (words_after left)
   one_more_played w = record {
+    text = w.text ∙ h.text;
     programs = w.programs ∙ h.programs;
     running = w.still ∙ sym w.was_running ∙ h.running;
     stays = λ halted. absurd (halted (sym h.running ∙ w.was_running));
@@ -89,15 +92,18 @@ module _ {A : Type 0} (store : A → Store) (old m n : MachineView A) (words lef
   pub all_played : (went : Bool) → Turns store m (start_of old.programs left) n went → went ≡ false → Plays store old n words
   all_played true (Goes w) e = cc
   all_played false (Stands s) e = record {
+    text = s.text ∙ h.text;
     programs = s.programs ∙ h.programs;
     stays = λ halted. absurd (halted (sym h.running ∙ s.was_running));
     goes = λ _. gone_on s;
   }
   all_played false (Stays halted same) e = record {
+    text = same.text ∙ h.text;
     programs = same.programs ∙ h.programs;
     stays = λ was.
         let before = h.stays was in
         record {
+          text = same.text ∙ before.text;
           programs = same.programs ∙ before.programs;
           schedule = same.schedule ∙ before.schedule;
           halted = same.halted ∙ before.halted;

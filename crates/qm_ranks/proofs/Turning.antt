@@ -50,13 +50,14 @@ pub record Waits {A : Type 0} (store : A → Store) (old : MachineView A) (start
 
 pub waits_at_first : {A : Type 0} (store : A → Store) (old : MachineView A) (start : ℕ) → Waits store old start 0 old
 waits_at_first store old start = record {
-  same = record { programs = refl; schedule = refl; halted = refl; contents = refl };
+  same = record { text = refl; programs = refl; schedule = refl; halted = refl; contents = refl };
   running = λ less. absurd (omega arith);
   before = λ k less. absurd (omega arith);
 }
 
 same_after : {A : Type 0} (store : A → Store) (a b c : MachineView A) → IsSame store a b → IsSame store b c → IsSame store a c
 same_after store a b c x y = record {
+  text = y.text ∙ x.text;
   programs = y.programs ∙ x.programs;
   schedule = y.schedule ∙ x.schedule;
   halted = y.halted ∙ x.halted;
@@ -104,6 +105,7 @@ module _ {A : Type 0} (store : A → Store) (old m n : MachineView A) (start ste
     rank = rank;
     first = first_here few e.may.able;
     allowed = rw (w.same.programs, w.same.schedule) at e.may.allowed;
+    text = e.text ∙ w.same.text;
     programs = e.programs ∙ w.same.programs;
     schedule = e.schedule ∙ ap (λ s. s ++ rank ∷ []) w.same.schedule;
     still = e.still;
@@ -135,6 +137,7 @@ halted_turns store old m n start steps rank w at few (inr halts) =
     let stops = halt_stops store old m n start steps rank w at few halts.halt halts.why.why halts.who in
     Stands (record {
       was_running = sym w.same.halted ∙ halts.running;
+      text = halts.new.text ∙ w.same.text;
       programs = programs;
       schedule = schedule;
       ended = stops_at_end old.programs (state_of old) start _ stops;
@@ -154,6 +157,7 @@ all_turns store old m start steps w first all =
     let running : old.halted ≡ None = w.running (omega arith) in
     Stands (record {
       was_running = running;
+      text = w.same.text;
       programs = w.same.programs;
       schedule = w.same.schedule;
       ended = inl none;

@@ -1,2 +1,4 @@
 pub mod Plays
 pub mod Laws
+pub mod Played
+pub mod Workers

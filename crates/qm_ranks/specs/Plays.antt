@@ -23,6 +23,7 @@ pub record GoesOn {A : Type 0} (old new : MachineView A) (words : Words) : Type 
 
 -- a halted machine stays as it is, another one goes on to its end
 pub record Plays {A : Type 0} (store : A → Store) (old new : MachineView A) (words : Words) : Type 0 where
+  pub text : new.text ≡ old.text
   pub programs : new.programs ≡ old.programs
   pub stays : old.halted ≢ None → IsSame store old new
   pub goes : old.halted ≡ None → GoesOn old new words
@@ -34,6 +35,7 @@ pub record Went {A : Type 0} (old : MachineView A) (start : ℕ) (new : MachineV
   pub rank : ℕ
   pub first : IsFirstAround old.programs (state_of old).tables start rank
   pub allowed : IsAllowed old.programs (state_of old) rank
+  pub text : new.text ≡ old.text
   pub programs : new.programs ≡ old.programs
   pub schedule : new.schedule ≡ old.schedule ++ rank ∷ []
   pub still : new.halted ≡ None
@@ -42,6 +44,7 @@ pub record Went {A : Type 0} (old : MachineView A) (start : ℕ) (new : MachineV
 -- the run is at its end
 pub record Stood {A : Type 0} (old : MachineView A) (start : ℕ) (new : MachineView A) : Type 0 where
   pub was_running : old.halted ≡ None
+  pub text : new.text ≡ old.text
   pub programs : new.programs ≡ old.programs
   pub schedule : new.schedule ≡ old.schedule
   pub ended : IsEndAround old.programs (state_of old) start

@@ -1,4 +1,4 @@
-//! Orders in which the ranks of a machine take their turns.
+//! Orders in which the ranks of a machine take their turns: the lowest first, by a seed, and by threads.
 #![tactic(auto)]
 
 ghost use Rattle.std.specs.Prelude.{◌%◌, length};
@@ -6,13 +6,19 @@ ghost use Rattle.qm_proto.specs.Model.Orders.{from_the_lowest};
 ghost use Rattle.qm_seed.specs.Seeds.{seed_words};
 ghost use Rattle.qm_ranks.specs.Plays.{Plays, Turns};
 
+mod desk;
+mod gate;
 pub mod laws;
-#[cfg(test)]
-mod tests;
+mod played;
+mod threads;
+mod workers;
 
+pub use gate::{NoGate, Turnstile};
+pub use played::{Exit, Leave, Played};
 use qm_denot::Amps;
 use qm_machine::{Machine, Step};
 use qm_seed::SeedWords;
+pub use threads::play_threads;
 
 /// Steps the ranks one after another, in their cyclic order from the word modulo their number on, until one did an event or halted the
 /// machine. Whether one did an event; if not, the machine is at its end.

@@ -23,6 +23,3 @@ pub fn is_reduced(numerators: &[Zw], exponent: u64) -> bool
 {
     generic::is_reduced(numerators, exponent)
 }
-
-#[cfg(test)]
-mod tests;

@@ -1,9 +1,6 @@
 //! The words of a seed: the numbers by which turns are given and outcomes are made, drawn one after another.
 #![tactic(auto)]
 
-#[cfg(test)]
-mod tests;
-
 ghost use Rattle.std.specs.Prelude.{◌≡◌};
 ghost use Rattle.qm_seed.specs.Seeds.{seed_words, words_after, words_of};
 

@@ -10,8 +10,6 @@ ghost use Rattle.qm_limits.specs.declared.TheConstants.{MOST_CAPACITY};
 ghost use Rattle.qm_denot.specs.Sound.{Keeps, Keeps-prop};
 
 mod lists;
-#[cfg(test)]
-mod tests;
 
 use lists::{double, pair_list, power, take_list};
 use qm_denot::{Amps, Letter, Overflow, Wire, any_unequal, any_with, index_at, place_of};

@@ -7,8 +7,6 @@ ghost use Rattle.qm_zomega.specs.Numbers.{omega_times};
 ghost use Rattle.qm_tables.specs.Cases.{case_of};
 
 mod laws;
-#[cfg(test)]
-mod tests;
 
 pub use laws::{case_law, turn_law};
 use qm_denot::Letter;

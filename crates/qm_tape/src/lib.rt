@@ -7,9 +7,6 @@ use qm_limits::MOST_OUTCOMES;
 use std::alloc::{AllocError, Global};
 use std::marker::Model;
 
-#[cfg(test)]
-mod tests;
-
 /// The outcomes that are left on a tape, in their order.
 #[derive(Drop)]
 pub struct Tape {

@@ -1,23 +1,22 @@
 -- What an answer is due for, from the programs, the text and the source
-use Rattle.std.proofs.Common.{◌≡◌, ℕ, ◌+◌, ◌≤◌, Bool, true, false, List, [], ◌++◌, length, Option, Some, Result, Ok, Err, IfOk, refl, sym, ap, subst, ◌∙◌, codes}
-use Rattle.std.proofs.Math.Nat.{add-zero}
-use Rattle.std.specs.declared.alloc.AllocError.{AllocError}
+use Rattle.std.proofs.Common.{◌≡◌, ℕ, ◌+◌, ◌≤◌, List, [], ◌++◌, length, Option, Some, None, Result, Ok, Err, refl, sym, ap, subst, ◌∙◌, codes}
+use Rattle.std.specs.Prelude.{IsErrAnd, Vec}
+use Rattle.std.specs.declared.alloc.Global.{Global}
+use Rattle.std.proofs.lemmas.Result.{err_from_is_err_and}
 use mathlib.Core.Path.{fun_ext}
 use Rattle.qm_denot.specs.declared.Wire.{Wire}
 use Rattle.qm_denot.specs.Wires.{no_wires}
 use Rattle.qm_denot.specs.Circuits.{Circuit}
 use Rattle.qm_denot.specs.Stores.{Store, StandsFor}
+use Rattle.qm_check.specs.Checks.{most_capacity}
+use Rattle.qm_gen.specs.Laws.{IsReadyText}
 use Rattle.qm_instr.specs.Programs.{Programs}
 use Rattle.qm_io.specs.Ends.{SinkView, SourceView, Took, Broke}
-use Rattle.qm_io.specs.Intake.{GaveAll, GaveMore, FailedOnce, Takes}
-use Rattle.qm_io.specs.declared.intake.TextError.{TextError}
-use Rattle.qm_io.specs.declared.intake.TextError.TheVariants as error
-use Rattle.qm_machine.specs.Keeps.{state_of}
 use Rattle.qm_proto.specs.Model.Ideal.{IdealTables, ideal_replay}
 use Rattle.qm_proto.specs.Model.Schedules.{protocol_total}
 use Rattle.qm_ideal.specs.declared.MonoError.{MonoError}
 use Rattle.qm_ideal.specs.declared.MonoError.TheVariants as mono_error
-use Rattle.qm_bits.specs.Numbers.{number_of_bits}
+use Rattle.qm_instr.specs.Bits.{number_of_bits}
 use Rattle.qm_ideal.specs.OneCircuits.{OneView, IsOneCircuit, Explains, bits_of, slot_of}
 use Rattle.qm_eval.specs.Holding.{HoldsCircuit}
 use Rattle.qm_print.specs.declared.FaultLine.{FaultLine}
@@ -31,62 +30,25 @@ use Rattle.qm_tool.specs.declared.answer.Answer.{Answer}
 use Rattle.qm_tool.specs.declared.answer.Answer.TheVariants as answer
 use Rattle.qm_tool.specs.declared.command.Command.{Command}
 use Rattle.qm_tool.specs.declared.command.Command.TheVariants as command
-use Rattle.qm_tool.specs.declared.command.Making.{Making}
 use Rattle.qm_tool.specs.declared.command.Play.{Play}
-use Rattle.qm_tool.specs.declared.reading.Unread.{Unread}
-use Rattle.qm_tool.specs.declared.reading.Unread.TheVariants as unread
-use Rattle.qm_tool.specs.Reading as unread_specs
+use Rattle.qm_tool.specs.declared.command.Recipe.{Recipe}
 use Rattle.qm_tool.specs.declared.running.Run.{Run}
+use Rattle.qm_tool.specs.declared.refusal.Refusal.{Refusal}
+use Rattle.qm_tool.specs.declared.refusal.Refusal.TheVariants as refusal
 use Rattle.qm_tool.specs.declared.status.Status.{Status}
 use Rattle.qm_tool.specs.declared.status.Status.TheVariants as status
-use Rattle.qm_tool.specs.Commands.{command_of, making_of, order_of, block_of}
-use Rattle.qm_tool.specs.Dues.{IsDue}
-use Rattle.qm_limits.specs.declared.TheConstants.{MOST_CAPACITY_1}
-use Rattle.qm_tool.specs.Due.{OnReady, ReadsReady, IsRefusedFor, RefusedWith, IsTextAfter, RunsTo, IsOneText, WaitsWith, IsAmplitudesText, AnswersReady, DueOf}
-use Rattle.qm_tool.specs.Calls.{Made, Text, Ends, Whole, Broken}
-use Rattle.qm_tool.specs.Ends.{HeadSays, bits_in, text_under}
-use Rattle.qm_tool.specs.Running.{IsRun, text_where, run_status, run_text}
-use Rattle.qm_tool.specs.Answers.{status_of, text_of, AnswersPrograms, AnswersText, AnswersMaking, AnswersSource, Concludes}
-use Rattle.qm_tool.proofs.AnswerLaws.{status_of_run}
-use Rattle.qm_tool.proofs.RunLemmas.{run_due}
+use Rattle.qm_tool.specs.Commands.{made_of, plain}
+use Rattle.qm_tool.specs.Due.{IsOneText, WaitsWith, IsAmplitudesText, ReadsReady, IsRefusedFor, RefusedWith, DueReady, DueOf, Made, Refused, Ready}
+use Rattle.qm_tool.specs.Calls.{CameFrom, Comes, NoCommand, Failed, More, Text, Ends, Whole, Broken}
+use Rattle.qm_tool.specs.Ends.{HeadSays, text_under}
+use Rattle.qm_tool.specs.Reading.{IsUngiven, IsUnready}
+use Rattle.qm_tool.specs.Refusals.{mono_refusal}
+use Rattle.qm_tool.specs.Running.{IsRun, MayPutRun, run_status, run_text, work_text}
+use Rattle.qm_tool.proofs.RunLemmas.{run-ready, work-ready}
+use Rattle.qm_tool.specs.Answers.{status_of, text_of, Fits, AnswersDue, AnswersReady, AnswersText, AnswersCall, Concludes}
 use Rattle.qm_tool.proofs.EndLemmas.{HeadSays-text, bits_lines-same}
-use Rattle.qm_tool.proofs.ReadingLaws.{IsRefusedFor-status}
-
--- ---- runs
-module _ {A : Type 0} (store : A → Store) (play : Play) (p : Programs) (run : Run A) (on : IsRun store play p run) where
-  abbrev state_text : List ℕ
-  state_text = text_under run.head run.live.items (store run.machine.amps).value
-
-  state_at_end : IsTextAfter run.machine.programs run.machine.schedule state_text
-  state_at_end =
-      let m = run.machine in
-      let s = store m.amps in
-      record {
-        numerators = s.value;
-        exponent = s.exponent;
-        form = on.stands.form;
-        lines = HeadSays-text m.programs (bits_in m) s.exponent run.head run.live.items _ s.value on.head on.slots
-            ∙ ap (λ k. state_lines (length m.programs.ranks) (protocol_total m.programs) k (λ r. number_of_bits (bits_in m r)) (full_slots m.programs (state_of m).tables.slots) s.value)
-            (sym (add-zero s.exponent));
-      }
-
-  of_programs : (complete : Bool) (bytes : List ℕ) → IsDue run.machine.programs (order_of play) (IsTextAfter run.machine.programs) (block_of play run.machine.programs) bytes complete
-      → AnswersReady (status_of_run complete) (command.Run play) p bytes
-  of_programs true bytes due = subst (λ (q : Programs). RunsTo true play q bytes) on.programs (record { in_range = on.in_range; due = due })
-  of_programs false bytes due = subst (λ (q : Programs). RunsTo false play q bytes) on.programs (record { in_range = on.in_range; due = due })
-
-  -- the block is that of the way in which it was played
-  same_text : text_where state_text run.stop ++ block_of play run.machine.programs run.machine.schedule ≡ run_text store run
-  same_text = ap (λ k. text_where state_text run.stop ++ block_of k run.machine.programs run.machine.schedule) (sym on.play_so)
-
-  -- the run answers the programs
-  pub run-answers : (c : Command) → c ≡ command.Run play → AnswersPrograms store c p (answer.Played run)
-  run-answers c is =
-      let due = run_due store play p run on (IsTextAfter run.machine.programs) (block_of play run.machine.programs) state_text state_at_end in
-      let bytes = text_where state_text run.stop ++ block_of play run.machine.programs run.machine.schedule in
-      let answers = subst (λ (s : Status). AnswersReady s (command.Run play) p bytes) (sym due.1) (of_programs due.0 bytes due.2) in
-      let with_text = subst (AnswersReady (run_status run) (command.Run play) p) same_text answers in
-      record { due = subst (λ (k : Command). AnswersReady (run_status run) k p (run_text store run)) (sym is) with_text }
+use Rattle.qm_tool.proofs.FaultNames.{IsRefusedFor-names}
+use Rattle.qm_tool.proofs.ReadingLaws.{IsRefusedFor-status, ready_or_refused}
 
 -- ---- the one circuit
 module _ (p : Programs) (m : OneView) (one : IsOneCircuit p m) where
@@ -113,59 +75,79 @@ module _ (p : Programs) (m : OneView) (one : IsOneCircuit p m) where
         };
       }
 
-  pub amplitudes-answer : (s : Store) (scale : ℕ) (head : Head) (live : List Live) → m.width ≤ MOST_CAPACITY_1 → HoldsCircuit m s → scale ≡ s.exponent + protocol_total p → HeadSays p (bits_of m) scale head
+  pub amplitudes-answer : (s : Store) (scale : ℕ) (head : Head) (live : List Live) → m.width ≤ most_capacity p.version → HoldsCircuit m s → scale ≡ s.exponent + protocol_total p → HeadSays p (bits_of m) scale head
       → live ≡ full_slots p (slot_of m) → IsAmplitudesText p (text_under head live s.value)
   amplitudes-answer s scale head live narrow holds same says full =
       let says_so : HeadSays p (bits_of m) (s.exponent + protocol_total p) head = subst (λ n. HeadSays p (bits_of m) n head) same says in
       record { circuit = m; one = one; narrow = narrow; fits = holds.fits; text = HoldsCircuit-text s head live holds says_so full }
 
--- the line of the ranks that wait
-pub waits-answer : (p : Programs) (e : MonoError) (left : ℕ) → e ≡ mono_error.Waits left → Explains p e → WaitsWith p (fault_text (line.Waits left))
-waits-answer p e left is x = record { left = left; early = subst (Explains p) is x; whole = refl }
+-- ---- the exit of a `?`
+pub at_exit : {T E : Type 0} (P : Result T E → Type 0) (r : Result T E) (x : E) → IsErrAnd r (λ y. y ≡ x) → P (Err x) → P r
+at_exit P r x h a = let p = err_from_is_err_and r h in subst P (sym (p.1 ∙ ap (λ y. Err y) p.2)) a
 
--- ---- the text
-module _ {A : Type 0} (store : A → Store) (c : Command) (text : List ℕ) where
-  OnReady-due : (s : Status) (bytes : List ℕ) → OnReady (AnswersReady s c) text bytes → DueOf c text s bytes
-  OnReady-due status.Refused bytes d = absurd d.so
-  OnReady-due s bytes d = d
-
-  -- what answers the programs that were read answers the text
-  pub ready-answers : (p : Programs) (r : Result (Answer A) AllocError) → ReadsReady text p → IfOk r (AnswersPrograms store c p) → IfOk r (AnswersText store c text)
-  ready-answers p (Ok a) reads on = record { due = OnReady-due (status_of a) (text_of store a) (record { programs = p; reads = reads; so = on.due }) }
-  ready-answers p (Err e) reads on = on
-
-  refused : (f : FaultLine) → IsRefusedFor text f → AnswersText store c text (answer.Fault f)
-  refused f is =
-      let with_line : RefusedWith text (fault_text f) = record { fault = f; refused = is; whole = refl } in
-      record { due = subst (λ (s : Status). DueOf c text s (fault_text f)) (sym (IsRefusedFor-status text f is)) with_line }
-
-  -- and so does the line of its refusal
-  pub refusal-answers : (e : Unread) (f : FaultLine) → e ≡ unread.Refused f → unread_specs.Explains text e → AnswersText store c text (answer.Fault f)
-  refusal-answers e f is x = refused f (subst (unread_specs.Explains text) is x)
-
-  -- what answers the text that was given answers the source
-  pub text-answers : (words : List (List ℕ)) (from from' : SourceView) (given : List ℕ) (r : Result (Answer A) AllocError) → command_of words ≡ Some c → GaveAll from from' given → text ≡ given
-      → IfOk r (AnswersText store c text) → IfOk r (AnswersSource store words from from')
-  text-answers words from from' given (Ok a) e g same due = record { comes = Text c given _ _ e g (subst (λ (t : List ℕ). DueOf c t (status_of a) (text_of store a)) same due.due) }
-  text-answers words from from' given (Err x) e g same due = due
-
--- what answers a command on a made program answers a source that nothing was asked of
-pub making-answers : {A : Type 0} (store : A → Store) (words : List (List ℕ)) (from : SourceView) (m : Making) (r : Result (Answer A) AllocError) → making_of words ≡ Some m
-    → IfOk r (AnswersMaking store m) → IfOk r (AnswersSource store words from from)
-making-answers store words from m (Ok a) e on = record { comes = Made m (status_of a) (text_of store a) e refl on.due }
-making-answers store words from m (Err x) e on = on
-
--- ---- the answer on the sink
 module _ {A : Type 0} (store : A → Store) where
-  pub Concludes-written : (to to' : SinkView) (r : Result (Answer A) AllocError) (a : Answer A) (s : Status) → r ≡ Ok a → s ≡ status_of a → Took to to' (text_of store a) → Concludes store to to' r s
-  Concludes-written to to' r a s e f t = subst (λ x. Concludes store to to' x s) (sym e) (subst (λ (q : Status). Ends (status_of a) (text_of store a) to to' q) (sym f) (Whole t))
+  -- what fits one thing fits another that follows
+  due_more : (IsDue IsDue' : List ℕ → Status → Type 0) → ((bytes : List ℕ) (s : Status) → IsDue bytes s → IsDue' bytes s) → (r : Result (Answer A) Refusal) → AnswersDue store IsDue r → AnswersDue store IsDue' r
+  due_more IsDue IsDue' so (Ok a) fits = record { may_put = fits.may_put; due = so (text_of store a) (status_of a) fits.due }
+  due_more IsDue IsDue' so (Err (refusal.Line f)) fits = record { may_put = fits.may_put; due = so _ _ fits.due }
+  due_more IsDue IsDue' so (Err refusal.Memory) fits = tt
 
-  pub Concludes-broken : (to to' : SinkView) (r : Result (Answer A) AllocError) (a : Answer A) → r ≡ Ok a → Broke to to' (text_of store a) → Concludes store to to' r status.WriteFault
-  Concludes-broken to to' r a e b = subst (λ x. Concludes store to to' x status.WriteFault) (sym e) (Broken b)
+  pub ready-text : (text : List ℕ) (c : Command) (p : Programs) (r : Result (Answer A) Refusal) → ReadsReady text p → AnswersReady store p c r → AnswersText store text c r
+  ready-text text c p r reads fits = due_more (λ bytes s. DueReady p bytes c s) (λ bytes s. DueOf text bytes c s) (λ bytes s d. Ready c s p reads d) r fits
 
--- ---- why there is no text
-pub Takes-failed : (from from' : SourceView) (e : TextError) → e ≡ error.ReadFault → Takes from from' (Err e) → FailedOnce from from'
-Takes-failed from from' e is t = subst (λ (x : TextError). Takes from from' (Err x)) is t
+  pub text-call : (text : List ℕ) (c : Command) (o : Option Command) (from from' : SourceView) (r : Result (Answer A) Refusal) → o ≡ Some c → CameFrom (made_of c) from from' text → AnswersText store text c r → AnswersCall store o from from' r
+  text-call text c o from from' r is came fits =
+      due_more (λ bytes s. DueOf text bytes c s) (λ bytes s. Comes from from' bytes o s) (λ bytes s d. subst (λ x. Comes from from' bytes x s) (sym is) (Text c text s came d)) r fits
 
-pub Takes-more : (from from' : SourceView) (e : TextError) → e ≡ error.TooLong → Takes from from' (Err e) → GaveMore from from'
-Takes-more from from' e is t = subst (λ (x : TextError). Takes from from' (Err x)) is t
+  -- ---- lines
+  -- no text came
+  pub ungiven-call : (c : Command) (o : Option Command) (from from' : SourceView) (x : Refusal) → o ≡ Some c → IsUngiven (made_of c) from from' x → AnswersCall store o from from' (Err x)
+  ungiven-call c o from from' x here u = subst (λ (q : Option Command). AnswersCall store q from from' (Err x)) (sym here) (by_made (made_of c) refl x u)
+    where
+      by_made : (made : Option Recipe) → made_of c ≡ made → (x : Refusal) → IsUngiven made from from' x → AnswersCall store (Some c) from from' (Err x)
+      by_made None is (refusal.Line line.ReadFault) u = record { may_put = tt; due = Failed c is u refl }
+      by_made None is (refusal.Line line.TooLong) u = record { may_put = tt; due = More c is u refl }
+      by_made made is refusal.Memory u = tt
+      by_made made is (refusal.Line f) u = absurd u
+
+  refused-text : (text : List ℕ) (c : Command) (f : FaultLine) → made_of c ≡ None → IsRefusedFor text f → AnswersText store text c (Err (refusal.Line f))
+  refused-text text c f given is =
+      let with_line : RefusedWith text (fault_text f) = record { fault = f; refused = is; whole = refl } in
+      record { may_put = IsRefusedFor-names text f is; due = subst (λ (s : Status). DueOf text (fault_text f) c s) (sym (IsRefusedFor-status text f is)) (Refused c given with_line) }
+
+  -- the text is refused; a made one isn't
+  pub unready-text : (text : List ℕ) (c : Command) (x : Refusal) → ((r : Recipe) → made_of c ≡ Some r → IsReadyText text) → IsUnready text x → AnswersText store text c (Err x)
+  unready-text text c refusal.Memory made u = tt
+  unready-text text c (refusal.Line f) made u = by_made (made_of c) refl
+    where
+      by_made : (o : Option Recipe) → made_of c ≡ o → AnswersText store text c (Err (refusal.Line f))
+      by_made None is = refused-text text c f is u
+      by_made (Some r) is = let ready = made r is in absurd (ready_or_refused text ready.programs f (record { reads = ready.reads; ready = ready.ready }) u)
+
+  -- ---- runs
+  pub run-answer : (p : Programs) (play : Play) (run : Run A) → IsRun store play p run → MayPutRun store run → (c : Command) → c ≡ command.Run play → Fits store (λ bytes s. DueReady p bytes c s) (answer.Played run)
+  run-answer p play run on may c is = record { may_put = may; due = subst (λ k. DueReady p (run_text store run) k (run_status run)) (sym is) (run-ready store play p run on) }
+
+  pub work-answer : (p : Programs) (r : Recipe) (run : Run A) → IsRun store plain p run → MayPutRun store run → (c : Command) → c ≡ command.Job r → Fits store (λ bytes s. DueReady p bytes c s) (answer.Worked r run)
+  work-answer p r run on may c is = record { may_put = may; due = subst (λ k. DueReady p (work_text store r run) k (run_status run)) (sym is) (work-ready store r p run on) }
+
+  -- ---- the one circuit
+  -- ranks wait for each other
+  pub waits-ready : (p : Programs) (c : Command) → ((bytes : List ℕ) → WaitsWith p bytes → DueReady p bytes c status.Waits) → (e : MonoError) → Explains p e → AnswersReady store p c (Err (mono_refusal e))
+  waits-ready p c row (mono_error.Waits left) x = record { may_put = tt; due = row (fault_text (line.Waits left)) (record { left = left; early = x; whole = refl }) }
+  waits-ready p c row mono_error.Memory x = tt
+
+  -- a text that is only written
+  pub gen-answer : (text : Vec ℕ Global) (r : Recipe) (c : Command) → c ≡ command.Gen r → Fits store (λ bytes s. DueOf text.items bytes c s) (answer.Text status.Ok text)
+  gen-answer text r c is = record { may_put = tt; due = subst (λ k. DueOf text.items text.items k status.Ok) (sym is) (Made r refl) }
+
+  -- words that are no command
+  pub usage-answer : (o : Option Command) (from : SourceView) → o ≡ None → Fits store (λ bytes s. Comes from from bytes o s) (answer.Line line.Usage)
+  usage-answer o from none = record { may_put = tt; due = subst (λ x. Comes from from (fault_text line.Usage) x status.Usage) (sym none) (NoCommand refl refl) }
+
+  -- ---- the answer on the sink
+  pub Concludes-written : (to to' : SinkView) (r : Option (Answer A)) (a : Answer A) (s : Status) → r ≡ Some a → s ≡ status_of a → Took to to' (text_of store a) → Concludes store r to to' s
+  Concludes-written to to' r a s e f t = subst (λ x. Concludes store x to to' s) (sym e) (subst (λ (q : Status). Ends (status_of a) (text_of store a) to to' q) (sym f) (Whole t))
+
+  pub Concludes-broken : (to to' : SinkView) (r : Option (Answer A)) (a : Answer A) → r ≡ Some a → Broke to to' (text_of store a) → Concludes store r to to' status.WriteFault
+  Concludes-broken to to' r a e b = subst (λ x. Concludes store x to to' status.WriteFault) (sym e) (Broken b)

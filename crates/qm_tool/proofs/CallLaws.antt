@@ -1,29 +1,34 @@
 -- What a whole call says: the cause of its status, and the status and the bytes that were due
-use Rattle.std.proofs.Common.{◌≡◌, ◌≢◌, ℕ, false, ◌≤◌, ◌⊎◌, inl, inr, List, ◌++◌, length, Option, Some, None, Result, Ok, Err, IfOk, refl, sym, ap, subst, ◌∙◌, arith, length-append}
+use Rattle.std.proofs.Common.{◌≡◌, ◌≢◌, ℕ, ◌≤◌, ◌⊎◌, inl, inr, List, ◌++◌, length, Option, Some, None, Result, Ok, Err, refl, sym, ap, subst, ◌∙◌, arith, length-append}
 use Rattle.std.proofs.lemmas.List.{append-nil}
 use Rattle.std.proofs.lemmas.Option.{none-some}
-use Rattle.std.specs.declared.alloc.AllocError.{AllocError}
 use Rattle.qm_denot.specs.Stores.{Store}
+use Rattle.qm_instr.specs.Programs.{Programs}
+use Rattle.qm_check.specs.Checks.{IsReady}
 use Rattle.qm_io.specs.Ends.{SinkView, SourceView, Rose, Took, IsSpent, led_by}
 use Rattle.qm_io.specs.Intake.{GaveAll, GaveMore, FailedOnce}
 use Rattle.qm_tool.specs.declared.answer.Answer.{Answer}
-use Rattle.qm_tool.specs.declared.answer.Answer.TheVariants as answer
+use Rattle.qm_tool.specs.declared.refusal.Refusal.{Refusal}
+use Rattle.qm_tool.specs.declared.refusal.Refusal.TheVariants as refusal
 use Rattle.qm_print.specs.declared.FaultLine.TheVariants as line
 use Rattle.qm_tool.specs.declared.status.Status.{Status}
 use Rattle.qm_tool.specs.declared.status.Status.TheVariants as status
 use Rattle.qm_tool.specs.declared.command.Command.{Command}
 use Rattle.qm_tool.specs.declared.command.Command.TheVariants as command
-use Rattle.qm_tool.specs.declared.command.Making.{Making}
-use Rattle.qm_tool.specs.declared.command.Making.TheVariants as making
 use Rattle.qm_tool.specs.declared.command.Play.{Play}
-use Rattle.qm_tool.specs.Commands.{command_of, making_of, IsNoCommand}
-use Rattle.qm_tool.specs.Due.{OnReady, IsSure, EndsWith, StopsWith, RefusedWith, WaitsWith, WideWith, OverflowsWith, WorksTo, DueOf, DueOfMaking, Due, NoCommand, Makes, TooMuch, Whole}
-use Rattle.qm_tool.specs.Calls.{Comes, Unasked, Made, Failed, More, Text, Ends, Whole as Written, Broken, Ran, Starved, Done, Wrote, WroteAlone, UnderRun, UnderJob, AsksForCircuit}
+use Rattle.qm_tool.specs.declared.command.Recipe.{Recipe}
+use Rattle.qm_tool.specs.Commands.{made_of, text_or}
+use Rattle.qm_tool.specs.Due as row
+use Rattle.qm_tool.specs.Due.{OnReady, StatesOneCircuit, EndsWith, DueReady, DueOf, Due}
+use Rattle.qm_tool.specs.Lines.{HasAmplitudeLine}
+use Rattle.qm_tool.specs.Calls.{Call, call, AsksSource, CameFrom, Comes, NoCommand, Failed, More, Text, Ends, Whole, Broken, Ran, Starved, Done, Answers, Breaks, IsOfText, EndsHeld}
+use Rattle.qm_tool.specs.Promises.{Promises}
 use Rattle.qm_print.specs.FaultText.{fault_text}
-use Rattle.qm_tool.specs.Answers.{status_of, text_of, AnswersSource, Concludes}
-use Rattle.qm_tool.proofs.AnswerLaws.{Due-one, DueOfMaking-one, one_command, one_making}
-use Rattle.qm_tool.proofs.CommandLemmas.{never_both}
+use Rattle.qm_tool.specs.Answers.{AnswersCall, Concludes, answer_in}
+use Rattle.qm_tool.proofs.AnswerLaws.{Due-one}
 use Rattle.qm_tool.proofs.Completing.{Due-ok}
+use Rattle.qm_tool.proofs.OneCircuits.{EndsWith-one_circuit}
+use Rattle.qm_tool.proofs.SomeLines.{some_line_due}
 
 -- ---- a source that tells its bytes
 -- what it gave, to its end, is all that it had
@@ -36,191 +41,181 @@ longer_than : (text got : List ℕ) (rest : Option (List ℕ)) → Some text ≡
 longer_than text got None e = cc
 longer_than text got (Some r) e = let k : text ≡ got ++ r = cc in omega (arith, ap length k, length-append got r)
 
-module _ (words : List (List ℕ)) (from from' : SourceView) where
-  -- what is due for what came is due for all that the source had
-  Comes-due : (s : Status) (bytes text : List ℕ) → from.left ≡ Some text → (Rose from.faults from'.faults → ⊥) → Comes words from from' s bytes → Due words text s bytes
-  Comes-due s bytes text told sure (Unasked e same) = NoCommand e
-  Comes-due s bytes text told sure (Made m q b e same d) = Makes m q b e d
-  Comes-due s bytes text told sure (Failed c e f) = absurd (sure f.rose)
-  Comes-due s bytes text told sure (More c e m) = TooMuch c e (omega (arith, m.long, longer_than text m.text from'.left (sym told ∙ m.gave.left)))
-  Comes-due s bytes text told sure (Text c t q b e g d) =
-      let all : text ≡ t = all_of_it text t from'.left (sym told ∙ g.gave.left) g.spent in
-      Whole c q b e (omega (arith, ap length all, g.short)) (subst (λ (x : List ℕ). DueOf c x q b) (sym all) d)
+module _ (from from' : SourceView) (given : List ℕ) where
+  -- the text that came is that of all that the source had
+  came_so : (made : Option Recipe) (text : List ℕ) → (made ≡ None → from.left ≡ Some given) → CameFrom made from from' text
+      → (text ≡ text_or made given) × (made ≡ None → length given ≤ 1048576)
+  came_so None text told g =
+      let all : given ≡ text = all_of_it given text from'.left (sym (told refl) ∙ g.gave.left) g.spent in
+      (sym all, λ e. omega (arith, ap length all, g.short))
+  came_so (Some r) text told came = (came.1, λ e. absurd (none-some r (sym e)))
 
-  module _ (to to' : SinkView) where
-    -- a status that was due for a text
-    pub record Told (s : Status) : Type 0 where
-      pub command : Command
-      pub reads : command_of words ≡ Some command
-      pub wrote : Wrote (λ text bytes. DueOf command text s bytes) from from' to to'
+  -- what is due for what came is due for it
+  Comes-due : (o : Option Command) (s : Status) (bytes : List ℕ) → (AsksSource o → from.left ≡ Some given) → (AsksSource o → Rose from.faults from'.faults → ⊥)
+      → Comes from from' bytes o s → Due given bytes o s
+  Comes-due o s bytes told read (NoCommand same e) = row.NoCommand e
+  Comes-due o s bytes told read (Failed c none f e) = absurd (read none f.rose)
+  Comes-due o s bytes told read (More c none m e) = row.TooMuch c none (omega (arith, m.long, longer_than given m.text from'.left (sym (told none) ∙ m.gave.left))) e
+  Comes-due o s bytes told read (Text c text q came d) =
+      let so = came_so (made_of c) text told came in
+      row.Whole c q so.1 (subst (λ t. DueOf t bytes c q) so.0 d)
 
-    -- a status that was due for a made program
-    pub record Crafted (s : Status) : Type 0 where
-      pub making : Making
-      pub makes : making_of words ≡ Some making
-      pub wrote : WroteAlone (λ bytes. DueOfMaking making s bytes) from from' to to'
+-- ---- the statuses that the table has
+DueReady-of_text : (p : Programs) (bytes : List ℕ) (c : Command) (s : Status) → DueReady p bytes c s → IsOfText s
+DueReady-of_text p bytes c s (row.Ends play e) = tt
+DueReady-of_text p bytes c s (row.Stops play e) = tt
+DueReady-of_text p bytes c s (row.Works r e) = tt
+DueReady-of_text p bytes c s (row.Breaks r e) = tt
+DueReady-of_text p bytes c s (row.Draws e) = tt
+DueReady-of_text p bytes c s (row.DrawsNone e) = tt
+DueReady-of_text p bytes c s (row.Values e) = tt
+DueReady-of_text p bytes c s (row.ValuesNone e) = tt
+DueReady-of_text p bytes c s (row.TooWide e) = tt
+DueReady-of_text p bytes c s (row.Overflows e) = tt
+DueReady-of_text p bytes c s (row.Checks e) = tt
 
-    -- what each status says of the ends
-    abbrev pub Cause : Status → Type 0
-    Cause status.Usage = IsNoCommand words
-    Cause status.Ok = Told status.Ok ⊎ Crafted status.Ok
-    Cause status.Stopped = Told status.Stopped ⊎ Crafted status.Stopped
-    Cause status.ReadFault = FailedOnce from from'
-    Cause status.TooLong = GaveMore from from'
-    Cause status.WriteFault = Rose to.faults to'.faults
-    Cause status.OutOfMemory = to' ≡ to
-    Cause s = Told s
+DueOf-of_text : (text bytes : List ℕ) (c : Command) (s : Status) → DueOf text bytes c s → IsOfText s
+DueOf-of_text text bytes c s (row.Made r e) = tt
+DueOf-of_text text bytes c s (row.Refused c' none e) = tt
+DueOf-of_text text bytes c s (row.Ready c' q p reads d) = DueReady-of_text p bytes c' q d
 
-    told : (c : Command) (s : Status) (text bytes : List ℕ) → command_of words ≡ Some c → GaveAll from from' text → DueOf c text s bytes → Took to to' bytes → Told s
-    told c s text bytes e g d t = record { command = c; reads = e; wrote = record { text = text; bytes = bytes; gave = g; says = d; took = t } }
+-- a run that ended well
+DueOf-ended : (text bytes : List ℕ) (play : Play) → DueOf text bytes (command.Run play) status.Ok → OnReady (λ p b. IsReady p × EndsWith play p b) text bytes
+DueOf-ended text bytes play (row.Ready c q p reads (row.Ends how e)) = record { programs = p; reads = reads; so = (reads.ready, e) }
 
-    crafted : (m : Making) (s : Status) (bytes : List ℕ) → making_of words ≡ Some m → from' ≡ from → DueOfMaking m s bytes → Took to to' bytes → Crafted s
-    crafted m s bytes e same d t = record { making = m; makes = e; wrote = record { bytes = bytes; unasked = same; says = d; took = t } }
+-- ---- what each status says
+module _ (k : Call) where
+  abbrev AnswersAs : Status → Type 0
+  AnswersAs s = Answers k (λ c text bytes. DueOf text bytes c s)
 
-    DueOfMaking-cause : (m : Making) (s : Status) (bytes : List ℕ) → making_of words ≡ Some m → from' ≡ from → DueOfMaking m s bytes → Took to to' bytes → Cause s
-    DueOfMaking-cause m status.Ok bytes e same d t = inr (crafted m status.Ok bytes e same d t)
-    DueOfMaking-cause m status.Stopped bytes e same d t = inr (crafted m status.Stopped bytes e same d t)
-    DueOfMaking-cause (making.Gen r) s bytes e same d t = absurd d
-    DueOfMaking-cause (making.Job r) s bytes e same d t = absurd d
+  abbrev Cause : Status → Type 0
+  Cause status.Usage = k.command ≡ None
+  Cause status.ReadFault = AsksSource k.command × FailedOnce k.from k.from'
+  Cause status.TooLong = AsksSource k.command × GaveMore k.from k.from'
+  Cause status.WriteFault = Breaks k
+  Cause status.OutOfMemory = k.to' ≡ k.to
+  Cause s = AnswersAs s
 
-    DueOf-cause : (c : Command) (s : Status) (text bytes : List ℕ) → command_of words ≡ Some c → GaveAll from from' text → DueOf c text s bytes → Took to to' bytes → Cause s
-    DueOf-cause c status.Usage text bytes e g d t = absurd d.so
-    DueOf-cause c status.ReadFault text bytes e g d t = absurd d.so
-    DueOf-cause c status.TooLong text bytes e g d t = absurd d.so
-    DueOf-cause c status.WriteFault text bytes e g d t = absurd d.so
-    DueOf-cause c status.OutOfMemory text bytes e g d t = absurd d.so
-    DueOf-cause c status.Ok text bytes e g d t = inl (told c status.Ok text bytes e g d t)
-    DueOf-cause c status.Stopped text bytes e g d t = inl (told c status.Stopped text bytes e g d t)
-    DueOf-cause c s text bytes e g d t = told c s text bytes e g d t
+  cause_of_text : (s : Status) → IsOfText s → AnswersAs s → Cause s
+  cause_of_text status.Usage q a = absurd q
+  cause_of_text status.ReadFault q a = absurd q
+  cause_of_text status.TooLong q a = absurd q
+  cause_of_text status.WriteFault q a = absurd q
+  cause_of_text status.OutOfMemory q a = absurd q
+  cause_of_text s q a = a
 
-    Comes-cause : (s : Status) (bytes : List ℕ) → Comes words from from' s bytes → Took to to' bytes → Cause s
-    Comes-cause s bytes (Unasked e same) t = e
-    Comes-cause s bytes (Made m q b e same d) t = DueOfMaking-cause m q b e same d t
-    Comes-cause s bytes (Failed c e f) t = f
-    Comes-cause s bytes (More c e m) t = m
-    Comes-cause s bytes (Text c text q b e g d) t = DueOf-cause c q text b e g d t
+  text_of_cause : (s : Status) → IsOfText s → Cause s → AnswersAs s
+  text_of_cause status.Usage q a = absurd q
+  text_of_cause status.ReadFault q a = absurd q
+  text_of_cause status.TooLong q a = absurd q
+  text_of_cause status.WriteFault q a = absurd q
+  text_of_cause status.OutOfMemory q a = absurd q
+  text_of_cause s q a = a
 
-    Ends-cause : (due s : Status) (bytes : List ℕ) → Comes words from from' due bytes → Ends due bytes to to' s → Cause s
-    Ends-cause due s bytes c (Written t) = Comes-cause due bytes c t
-    Ends-cause due s bytes c (Broken b) = b.rose
+  -- of a run that ended well, by what follows from its bytes
+  ended : (play : Play) (says : Programs → List ℕ → Type 0) → ((p : Programs) (bytes : List ℕ) → IsReady p → EndsWith play p bytes → says p bytes)
+      → k.command ≡ Some (command.Run play) → AnswersAs status.Ok → Answers k (λ c. OnReady says)
+  ended play says so is a =
+      let same : a.command ≡ command.Run play = let own = a.is in cc in
+      let e = DueOf-ended a.text a.bytes play (subst (λ c. DueOf a.text a.bytes c status.Ok) same a.so) in
+      record {
+        command = a.command;
+        is = a.is;
+        text = a.text;
+        came = a.came;
+        bytes = a.bytes;
+        so = record { programs = e.programs; reads = e.reads; so = so e.programs a.bytes e.so.0 e.so.1 };
+        took = a.took;
+      }
 
-    Ran-its_cause : (s : Status) → Ran words from from' to to' s → Cause s
-    Ran-its_cause s (Starved e) = e
-    Ran-its_cause s (Done q a) = Ends-cause a.due q a.bytes a.comes a.ends
+  whole_text : (s : Status) → AsksSource k.command → AnswersAs s → (text : List ℕ) × GaveAll k.from k.from' text
+  whole_text s asks a =
+      let none : made_of a.command ≡ None = subst AsksSource a.is asks in
+      (a.text, subst (λ m. CameFrom m k.from k.from' a.text) none a.came)
 
-    pub Ran-cause : (s q : Status) → Ran words from from' to to' s → s ≡ q → Cause q
-    Ran-cause s q r e = subst Cause e (Ran-its_cause s r)
+module _ (from from' : SourceView) (to to' : SinkView) where
+  Comes-cause : (o : Option Command) (s : Status) (bytes : List ℕ) → Comes from from' bytes o s → Took to to' bytes → Cause (call o from from' to to' s) s
+  Comes-cause o s bytes (NoCommand same e) t = refl
+  Comes-cause o s bytes (Failed c none f e) t = (none, f)
+  Comes-cause o s bytes (More c none m e) t = (none, m)
+  Comes-cause o s bytes (Text c text q came d) t =
+      cause_of_text (call (Some c) from from' to to' q) q (DueOf-of_text text bytes c q d)
+      (record { command = c; is = refl; text = text; came = came; bytes = bytes; so = d; took = t })
 
-    Ends-exact : (due s q : Status) (bytes b text : List ℕ) → Due words text due bytes → Due words text q b → (Rose to.faults to'.faults → ⊥) → Ends due bytes to to' s → (s ≡ q) × Took to to' b
-    Ends-exact due s q bytes b text d e sure (Written t) = let one = Due-one words text due q bytes b d e in (one.0, subst (Took to to') one.1 t)
-    Ends-exact due s q bytes b text d e sure (Broken k) = absurd (sure k.rose)
+  Ends-cause : (o : Option Command) (due s : Status) (bytes : List ℕ) → Comes from from' bytes o due → Ends due bytes to to' s → Cause (call o from from' to to' s) s
+  Ends-cause o due s bytes c (Whole t) = Comes-cause o due bytes c t
+  Ends-cause o due s bytes c (Broken b) = record { due = due; bytes = bytes; comes = c; broke = b }
 
-    pub Ran-exact : (r : Status) → Ran words from from' to to' r → (text : List ℕ) (s : Status) (bytes : List ℕ) → from.left ≡ Some text → (Rose from.faults from'.faults → ⊥) → (Rose to.faults to'.faults → ⊥)
-        → r ≢ status.OutOfMemory → Due words text s bytes → (r ≡ s) × Took to to' bytes
-    Ran-exact r (Starved e) text s bytes told read wrote memory due = absurd (memory refl)
-    Ran-exact r (Done q a) text s bytes told read wrote memory due = Ends-exact a.due q s a.bytes bytes text (Comes-due a.due a.bytes text told read a.comes) due wrote a.ends
+  Ends-flushed : (due s : Status) (bytes : List ℕ) → s ≢ status.WriteFault → Ends due bytes to to' s → to'.faults ≡ to.faults
+  Ends-flushed due s bytes other (Whole t) = t.faults
+  Ends-flushed due s bytes other (Broken b) = absurd (other refl)
 
-    -- what is due for a made program is due whatever the source is
-    Comes-made : (m : Making) (due s : Status) (bytes b : List ℕ) → making_of words ≡ Some m → Comes words from from' due bytes → DueOfMaking m s b → (due ≡ s) × (bytes ≡ b)
-    Comes-made m _ s _ b e (Unasked none same) d = absurd (none-some m (sym none.makes_none ∙ e))
-    Comes-made m due s bytes b e (Made n q x f same x_due) d = DueOfMaking-one m q s x b (subst (λ (k : Making). DueOfMaking k q x) (one_making words m n e f) x_due) d
-    Comes-made m _ s _ b e (Failed c f fault) d = absurd (never_both words m c e f)
-    Comes-made m _ s _ b e (More c f more) d = absurd (never_both words m c e f)
-    Comes-made m due s bytes b e (Text c t q x f given x_due) d = absurd (never_both words m c e f)
+  Ends-took : (due s : Status) (bytes : List ℕ) → (Rose to.faults to'.faults → ⊥) → Ends due bytes to to' s → (s ≡ due) × Took to to' bytes
+  Ends-took due s bytes wrote (Whole t) = (refl, t)
+  Ends-took due s bytes wrote (Broken b) = absurd (wrote b.rose)
 
-    Ends-made : (m : Making) (due r s : Status) (bytes b : List ℕ) → making_of words ≡ Some m → Comes words from from' due bytes → DueOfMaking m s b → (Rose to.faults to'.faults → ⊥) → Ends due bytes to to' r
-        → (r ≡ s) × Took to to' b
-    Ends-made m due r s bytes b e comes d sure (Written t) = let one = Comes-made m due s bytes b e comes d in (one.0, subst (Took to to') one.1 t)
-    Ends-made m due r s bytes b e comes d sure (Broken k) = absurd (sure k.rose)
+  usage_due : (o : Option Command) (due s : Status) (bytes : List ℕ) → o ≡ None → Comes from from' bytes o due → Ends due bytes to to' s → Ends status.Usage (fault_text line.Usage) to to' s
+  usage_due o due s bytes none (NoCommand same e) ends = subst (λ b. Ends status.Usage b to to' s) e ends
+  usage_due o due s bytes none (Failed c given f e) ends = absurd (none-some c (sym none))
+  usage_due o due s bytes none (More c given m e) ends = absurd (none-some c (sym none))
+  usage_due o due s bytes none (Text c text q came d) ends = absurd (none-some c (sym none))
 
-    pub Ran-exact_made : (r : Status) → Ran words from from' to to' r → (m : Making) (s : Status) (bytes : List ℕ) → (Rose to.faults to'.faults → ⊥) → r ≢ status.OutOfMemory → making_of words ≡ Some m → DueOfMaking m s bytes
-        → (r ≡ s) × Took to to' bytes
-    Ran-exact_made r (Starved e) m s bytes wrote memory is d = absurd (memory refl)
-    Ran-exact_made r (Done q a) m s bytes wrote memory is d = Ends-made m a.due q s a.bytes bytes is a.comes d wrote a.ends
+  module _ (o : Option Command) (s : Status) where
+    abbrev k : Call
+    k = call o from from' to to' s
 
-    -- ---- a status that was due for a text, by the command
-    -- of a command that is known
-    pub Told-of : (c : Command) (s : Status) → Told s ⊎ Crafted s → command_of words ≡ Some c → Wrote (λ text bytes. DueOf c text s bytes) from from' to to'
-    Told-of c s (inr k) e = absurd (never_both words k.making c k.makes e)
-    Told-of c s (inl t) e = subst (λ (d : Command). Wrote (λ text bytes. DueOf d text s bytes) from from' to to') (one_command words c t.command e t.reads) t.wrote
+    Ran-cause : Ran k → Cause k s
+    Ran-cause (Starved c is e same) = subst (Cause k) (sym e) same
+    Ran-cause (Done due bytes comes ends) = Ends-cause o due s bytes comes ends
 
-    pub Crafted-of : (m : Making) (s : Status) → Told s ⊎ Crafted s → making_of words ≡ Some m → WroteAlone (λ bytes. DueOfMaking m s bytes) from from' to to'
-    Crafted-of m s (inl t) e = absurd (never_both words m t.command e t.reads)
-    Crafted-of m s (inr k) e = subst (λ (n : Making). WroteAlone (λ bytes. DueOfMaking n s bytes) from from' to to') (one_making words m k.making e k.makes) k.wrote
+    cause : (q : Status) → Ran k → s ≡ q → Cause k q
+    cause q r e = subst (Cause k) e (Ran-cause r)
 
-    -- what follows from the bytes of a run that ended holds of those that were written
-    pub Told-ended : (play : Play) (says : List ℕ → List ℕ → Type 0) → ((text bytes : List ℕ) → EndsWith play text bytes → says text bytes)
-        → Told status.Ok ⊎ Crafted status.Ok → command_of words ≡ Some (command.Run play) → Wrote says from from' to to'
-    Told-ended play says so t e =
-        let w = Told-of (command.Run play) status.Ok t e in
-        record { text = w.text; bytes = w.bytes; gave = w.gave; says = so w.text w.bytes w.says; took = w.took }
+    Ran-flushed : Ran k → s ≢ status.WriteFault → to'.faults ≡ to.faults
+    Ran-flushed (Starved c is e same) other = ap (λ (v : SinkView). v.faults) same
+    Ran-flushed (Done due bytes comes ends) other = Ends-flushed due s bytes other ends
 
-    pub Told-refused : Told status.Refused → Wrote RefusedWith from from' to to'
-    Told-refused t = t.wrote
+    Ran-usage : Ran k → o ≡ None → Ends status.Usage (fault_text line.Usage) to to' s
+    Ran-usage (Starved c is e same) none = absurd (none-some c (sym none ∙ is))
+    Ran-usage (Done due bytes comes ends) none = usage_due o due s bytes none comes ends
 
-    pub Told-stopped : Told status.Stopped ⊎ Crafted status.Stopped
-        → UnderRun words (λ play. Wrote (StopsWith play) from from' to to') ⊎ UnderJob words (λ recipe. WroteAlone (WorksTo false recipe) from from' to to')
-    Told-stopped (inr k) = inr (by_making k.making k.makes k.wrote)
-      where
-        by_making : (m : Making) → making_of words ≡ Some m → WroteAlone (λ bytes. DueOfMaking m status.Stopped bytes) from from' to to' → UnderJob words (λ recipe. WroteAlone (WorksTo false recipe) from from' to to')
-        by_making (making.Gen r) e w = absurd w.says
-        by_making (making.Job r) e w = record { recipe = r; makes = e; so = w }
-    Told-stopped (inl t) = inl (by_command t.command t.reads t.wrote)
-      where
-        by_command : (c : Command) → command_of words ≡ Some c → Wrote (λ text bytes. DueOf c text status.Stopped bytes) from from' to to' → UnderRun words (λ play. Wrote (StopsWith play) from from' to to')
-        by_command (command.Run play) e w = record { play = play; reads = e; so = w }
-        by_command command.Mono e w = absurd w.says.so
-        by_command command.MonoAmps e w = absurd w.says.so
-        by_command command.Check e w = absurd w.says.so
+    Ran-exact : Ran k → (given : List ℕ) (q : Status) (bytes : List ℕ) → EndsHeld k given → s ≢ status.OutOfMemory → Due given bytes o q → (s ≡ q) × Took to to' bytes
+    Ran-exact (Starved c is e same) given q bytes held memory d = absurd (memory e)
+    Ran-exact (Done due b comes ends) given q bytes held memory d =
+        let one = Due-one o given due q b bytes (Comes-due from from' given o due b held.told held.read comes) d in
+        let took = Ends-took due s b held.wrote ends in
+        (took.0 ∙ one.0, subst (Took to to') one.1 took.1)
 
-    pub Told-waits : Told status.Waits → AsksForCircuit words × Wrote (OnReady WaitsWith) from from' to to'
-    Told-waits t = by_command t.command t.reads t.wrote
-      where
-        by_command : (c : Command) → command_of words ≡ Some c → Wrote (λ text bytes. DueOf c text status.Waits bytes) from from' to to' → AsksForCircuit words × Wrote (OnReady WaitsWith) from from' to to'
-        by_command (command.Run play) e w = absurd w.says.so
-        by_command command.Mono e w = (inl e, w)
-        by_command command.MonoAmps e w = (inr e, w)
-        by_command command.Check e w = absurd w.says.so
+    Ran-complete : Ran k → (play : Play) (text : List ℕ) → EndsHeld k text → o ≡ Some (command.Run play) → length text ≤ 1048576 → row.IsSure text → (s ≡ status.Ok) ⊎ (s ≡ status.OutOfMemory)
+    Ran-complete (Starved c is e same) play text held run short sure = inr e
+    Ran-complete (Done due b comes ends) play text held run short sure =
+        let d = Comes-due from from' text o due b held.told held.read comes in
+        inl ((Ends-took due s b held.wrote ends).0 ∙ Due-ok play text b sure due short (subst (λ x. Due text b x due) run d))
 
-    pub Told-wide : Told status.Wide → (command_of words ≡ Some command.MonoAmps) × Wrote (OnReady WideWith) from from' to to'
-    Told-wide t = by_command t.command t.reads t.wrote
-      where
-        by_command : (c : Command) → command_of words ≡ Some c → Wrote (λ text bytes. DueOf c text status.Wide bytes) from from' to to' → (command_of words ≡ Some command.MonoAmps) × Wrote (OnReady WideWith) from from' to to'
-        by_command (command.Run play) e w = absurd w.says.so
-        by_command command.Mono e w = absurd w.says.so
-        by_command command.MonoAmps e w = (e, w)
-        by_command command.Check e w = absurd w.says.so
-
-    pub Told-overflow : Told status.LetterOverflow → (command_of words ≡ Some command.MonoAmps) × Wrote (OnReady OverflowsWith) from from' to to'
-    Told-overflow t = by_command t.command t.reads t.wrote
-      where
-        by_command : (c : Command) → command_of words ≡ Some c → Wrote (λ text bytes. DueOf c text status.LetterOverflow bytes) from from' to to' → (command_of words ≡ Some command.MonoAmps) × Wrote (OnReady OverflowsWith) from from' to to'
-        by_command (command.Run play) e w = absurd w.says.so
-        by_command command.Mono e w = absurd w.says.so
-        by_command command.MonoAmps e w = (e, w)
-        by_command command.Check e w = absurd w.says.so
-
-    -- ---- a text of which no schedule can stop
-    Ends-ok : (due s : Status) (bytes : List ℕ) → due ≡ status.Ok → (Rose to.faults to'.faults → ⊥) → Ends due bytes to to' s → s ≡ status.Ok
-    Ends-ok due s bytes e sure (Written t) = e
-    Ends-ok due s bytes e sure (Broken k) = absurd (sure k.rose)
-
-    pub Ran-complete : (r : Status) → Ran words from from' to to' r → (text : List ℕ) → from.left ≡ Some text → (Rose from.faults from'.faults → ⊥) → (Rose to.faults to'.faults → ⊥)
-        → (play : Play) → command_of words ≡ Some (command.Run play) → length text ≤ 1048576 → IsSure text → (r ≡ status.Ok) ⊎ (r ≡ status.OutOfMemory)
-    Ran-complete r (Starved e) text told read wrote play is short sure = inr refl
-    Ran-complete r (Done q a) text told read wrote play is short sure =
-        inl (Ends-ok a.due q a.bytes (Due-ok words play a.due text a.bytes is short sure (Comes-due a.due a.bytes text told read a.comes)) wrote a.ends)
+    pub Ran-promises : Ran k → Promises k
+    Ran-promises r = record {
+      ran = r;
+      answered = λ q. text_of_cause k s q (Ran-cause r);
+      usage = cause status.Usage r;
+      read_fault = cause status.ReadFault r;
+      too_long = cause status.TooLong r;
+      write_fault = cause status.WriteFault r;
+      nothing = cause status.OutOfMemory r;
+      headline = λ play is e. ended k play (StatesOneCircuit play) (EndsWith-one_circuit play) is (cause status.Ok r e);
+      some_line = λ play is e. ended k play (HasAmplitudeLine play) (some_line_due play) is (cause status.Ok r e);
+      whole = λ asks q. whole_text k s asks (text_of_cause k s q (Ran-cause r));
+      flushed = Ran-flushed r;
+      no_command = Ran-usage r;
+      exact = Ran-exact r;
+      complete = Ran-complete r;
+    }
 
     -- ---- by the answer
-    pub Concludes-ran : {A : Type 0} (store : A → Store) (r : Result (Answer A) AllocError) (s : Status) → IfOk r (AnswersSource store words from from') → Concludes store to to' r s → Ran words from from' to to' s
-    Concludes-ran store (Ok a) s came ends = Done s (record { due = status_of a; bytes = text_of store a; comes = came.comes; ends = ends })
-    Concludes-ran store (Err e) s came ends = subst (Ran words from from' to to') (sym ends.0) (Starved ends.1)
-
-    -- the answer to words that are no command is written, or a write fails
-    pub Concludes-usage : {A : Type 0} (store : A → Store) (r : Result (Answer A) AllocError) (s : Status) → r ≡ Ok (answer.Fault line.Usage) → IfOk r (AnswersSource store words from from') → Concludes store to to' r s
-        → (s ≡ status.Usage) ⊎ (s ≡ status.WriteFault)
-    Concludes-usage store r s e came c = by_end s (subst (λ x. Concludes store to to' x s) e c)
+    pub Concludes-ran : {A : Type 0} (store : A → Store) (r : Result (Answer A) Refusal) → (o ≡ None → r ≡ Err (refusal.Line line.Usage)) → AnswersCall store o from from' r → Concludes store (answer_in r) to to' s → Ran k
+    Concludes-ran store (Ok a) usage came ends = Done _ _ came.due ends
+    Concludes-ran store (Err (refusal.Line f)) usage came ends = Done _ _ came.due ends
+    Concludes-ran store (Err refusal.Memory) usage came ends = by_command o refl
       where
-        by_end : (s : Status) → Ends status.Usage (fault_text line.Usage) to to' s → (s ≡ status.Usage) ⊎ (s ≡ status.WriteFault)
-        by_end s (Written t) = inl refl
-        by_end s (Broken b) = inr refl
+        by_command : (x : Option Command) → o ≡ x → Ran k
+        by_command None is = let e = usage is in absurd (cc)
+        by_command (Some c) is = Starved c is ends.0 ends.1

@@ -2,7 +2,7 @@
 use Rattle.std.proofs.Common.{◌≡◌, ℕ, ◌≤◌, nat_lt, ◌==◌, Bool, true, false, if◌then◌else◌, None, refl, arith}
 use Rattle.std.proofs.lemmas.Bool.{ltb-false}
 use Rattle.qm_instr.specs.Programs.{Programs}
-use Rattle.qm_check.specs.Checks.{IsReady, Width, capacity_of, most_capacity, width_fault}
+use Rattle.qm_check.specs.Checks.{IsReady, AllRanks, capacity_of, most_capacity, width_fault}
 
 none_too_wide : (version capacity : ℕ) → width_fault version capacity ≡ None → capacity ≤ most_capacity version
 none_too_wide version capacity e = by_test (nat_lt (most_capacity version) capacity) refl
@@ -19,4 +19,4 @@ most_capacity-few version = by_test (version == 1)
     by_test false = omega arith
 
 pub ready_capacity : (p : Programs) → IsReady p → capacity_of p ≤ 22
-ready_capacity p ready = omega (arith, none_too_wide p.version (capacity_of p) (ready Width), most_capacity-few p.version)
+ready_capacity p ready = omega (arith, none_too_wide p.version (capacity_of p) (ready AllRanks), most_capacity-few p.version)

@@ -1,5 +1,5 @@
 -- An order has one due text, and a machine that was played in it tells which
-use Rattle.std.proofs.Common.{◌≡◌, ◌∙◌, ℕ, ◌%◌, ◌<◌, ◌⊎◌, inl, inr, Bool, true, List, [], ◌∷◌, ◌++◌, length, Some, None, refl, sym, ap, subst, arith}
+use Rattle.std.proofs.Common.{◌≡◌, ◌∙◌, ℕ, ◌%◌, ◌<◌, ◌⊎◌, inl, inr, Bool, true, false, List, [], ◌∷◌, ◌++◌, length, Some, None, refl, sym, ap, subst, arith}
 use Rattle.qm_denot.specs.Circuits.{Circuit}
 use Rattle.qm_denot.specs.Stores.{Store}
 use Rattle.qm_instr.specs.Programs.{Programs}
@@ -15,9 +15,10 @@ use Rattle.qm_machine.specs.Keeps.{MachineView, HasEnded, state_of}
 use Rattle.qm_print.specs.FaultText.{stopped_line}
 use Rattle.qm_ranks.specs.Plays as plays
 use Rattle.qm_ranks.specs.Plays.{IsOver, Plays}
-use Rattle.qm_tool.specs.Dues.{CompleteWith, Stops, Refused, Stuck, StoppedWith, Order, order_words, IsScheduleOf, IsTurnAfter, IsDue, Completes, StopsShort, HaltStops, HasPlayed}
+use Rattle.qm_tool.specs.declared.command.Order.{Order}
+use Rattle.qm_tool.specs.Dues.{CompleteWith, Stops, Refused, Stuck, StoppedWith, order_words, IsScheduleOf, IsTurnAfter, IsDue, Completes, StopsShort, HaltStops, HasPlayed}
 use Rattle.qm_ranks.proofs.Orders.{one_order, around_unique, around_known, legal_order}
-use Rattle.qm_runs.proofs.Tables.Counting.{event_where_held}
+use Rattle.qm_proto.proofs.Counting.{event_where_held}
 
 -- ---- a state stops a run at one rank, for one cause
 first_fails_unique : (g : Circuit) (ks : List Check) (c d : Cause) → FirstFails g ks c → FirstFails g ks d → c ≡ d
@@ -42,47 +43,58 @@ module _ (p : Programs) (s : State) (q r : ℕ) where
 stuck_or_able : (p : Programs) (t : Tables) (q : ℕ) → IsStuck p t → q < length p.ranks → enabled p t q ≡ true → ⊥
 stuck_or_able p t q stuck known able = let unable = stuck.none q known in cc
 
-stops_once : (p : Programs) (s : State) (start q r : ℕ) (c d : Cause) → Stops p s (IsFirstAround p s.tables start) q c → Stops p s (IsFirstAround p s.tables start) r d → (q ≡ r) × (c ≡ d)
-stops_once p s start q r _ _ (Refused c first known able refused) (Refused d first' known' able' refused') =
-    let same = around_unique p s.tables start q r first first' in
-    (same, first_fails_unique s.circuit _ c d refused (subst (λ k. IsRefused p s k d) (sym same) refused'))
-stops_once p s start q r _ _ (Refused c first known able refused) (Stuck stuck low) = absurd (stuck_or_able p s.tables q stuck known able)
-stops_once p s start q r _ _ (Stuck stuck low) (Refused d first known able refused) = absurd (stuck_or_able p s.tables r stuck known able)
-stops_once p s start q r _ _ (Stuck stuck low) (Stuck stuck' low') = (lowest_left_unique p s q r low low', refl)
+module _ (p : Programs) (s : State) (IsNext : ℕ → Type 0) (one_next : (q r : ℕ) → IsNext q → IsNext r → q ≡ r) where
+  stops_once : (q r : ℕ) (c d : Cause) → Stops p s IsNext q c → Stops p s IsNext r d → (q ≡ r) × (c ≡ d)
+  stops_once q r _ _ (Refused c next known able refused) (Refused d next' known' able' refused') =
+      let same = one_next q r next next' in
+      (same, first_fails_unique s.circuit _ c d refused (subst (λ k. IsRefused p s k d) (sym same) refused'))
+  stops_once q r _ _ (Refused c next known able refused) (Stuck stuck low) = absurd (stuck_or_able p s.tables q stuck known able)
+  stops_once q r _ _ (Stuck stuck low) (Refused d next known able refused) = absurd (stuck_or_able p s.tables r stuck known able)
+  stops_once q r _ _ (Stuck stuck low) (Stuck stuck' low') = (lowest_left_unique p s q r low low', refl)
 
 -- and doesn't where all ranks have ended
 ended_or_stops : (p : Programs) (s : State) (IsNext : ℕ → Type 0) (r : ℕ) (c : Cause) → AllEnded p s.tables → Stops p s IsNext r c → ⊥
 ended_or_stops p s IsNext r _ ended (Refused d next known able refused) = let none = ended r known in let some = event_where_held p s.tables _ able in cc
 ended_or_stops p s IsNext r _ ended (Stuck stuck low) = let none = ended r low.known in let some = low.left in cc
 
--- ---- one due text
-module _ (p : Programs) (o : Order) (IsState : List ℕ → List ℕ → Type 0) (block : List ℕ → List ℕ) (one_state : (schedule a b : List ℕ) → IsState schedule a → IsState schedule b → a ≡ b) where
-  one_schedule : (xs ys : List ℕ) → IsScheduleOf p o xs → IsScheduleOf p o ys → xs ≡ ys
-  one_schedule xs ys a b = one_order p (state_at_start p) (order_words o) xs ys a b
+-- ---- one due text, where there is one schedule, one rank for each turn, and one text of what a schedule leaves
+module _ (p : Programs) (MayRun : List ℕ → Type 0) (MayBeNext : List ℕ → ℕ → Type 0) (IsEnd : List ℕ → List ℕ → Type 0) (block : Bool → List ℕ → List ℕ)
+    (one_schedule : (xs ys : List ℕ) → MayRun xs → MayRun ys → xs ≡ ys)
+    (one_next : (schedule : List ℕ) (q r : ℕ) → MayBeNext schedule q → MayBeNext schedule r → q ≡ r)
+    (one_end : (schedule a b : List ℕ) → IsEnd schedule a → IsEnd schedule b → a ≡ b) where
+  abbrev Complete : List ℕ → List ℕ → Type 0
+  Complete schedule text = CompleteWith p (IsEnd schedule) schedule (block true schedule) text
 
-  complete_once : (schedule a b : List ℕ) → CompleteWith p (IsState schedule) schedule (block schedule) a → CompleteWith p (IsState schedule) schedule (block schedule) b → a ≡ b
-  complete_once schedule a b x y = x.whole ∙ ap (λ t. t ++ block schedule) (one_state schedule x.state y.state x.so y.so) ∙ sym y.whole
+  abbrev Stopped : List ℕ → List ℕ → Type 0
+  Stopped schedule text = StoppedWith p (MayBeNext schedule) schedule (block false schedule) text
 
-  stopped_once : (schedule a b : List ℕ) → StoppedWith p (IsTurnAfter p o schedule) schedule (block schedule) a → StoppedWith p (IsTurnAfter p o schedule) schedule (block schedule) b → a ≡ b
+  complete_once : (schedule a b : List ℕ) → Complete schedule a → Complete schedule b → a ≡ b
+  complete_once schedule a b x y = x.whole ∙ ap (λ t. t ++ block true schedule) (one_end schedule x.end y.end x.so y.so) ∙ sym y.whole
+
+  stopped_once : (schedule a b : List ℕ) → Stopped schedule a → Stopped schedule b → a ≡ b
   stopped_once schedule a b x y =
-      let same = stops_once p (replay p schedule) (order_words o (length schedule) % length p.ranks) x.rank y.rank x.cause y.cause x.stops y.stops in
+      let same = stops_once p (replay p schedule) (MayBeNext schedule) (one_next schedule) x.rank y.rank x.cause y.cause x.stops y.stops in
       x.whole
-      ∙ ap (λ r. stopped_line r (length schedule) x.cause ++ block schedule) same.0
-      ∙ ap (λ c. stopped_line y.rank (length schedule) c ++ block schedule) same.1
+      ∙ ap (λ r. stopped_line r (length schedule) x.cause ++ block false schedule) same.0
+      ∙ ap (λ c. stopped_line y.rank (length schedule) c ++ block false schedule) same.1
       ∙ sym y.whole
 
-  complete_or_stopped : (schedule a b : List ℕ) → CompleteWith p (IsState schedule) schedule (block schedule) a → StoppedWith p (IsTurnAfter p o schedule) schedule (block schedule) b → ⊥
-  complete_or_stopped schedule a b x y = ended_or_stops p (replay p schedule) (IsTurnAfter p o schedule) y.rank y.cause x.complete.ended y.stops
+  complete_or_stopped : (schedule a b : List ℕ) → Complete schedule a → Stopped schedule b → ⊥
+  complete_or_stopped schedule a b x y = ended_or_stops p (replay p schedule) (MayBeNext schedule) y.rank y.cause x.complete.ended y.stops
 
-  pub one_due : (a b : List ℕ) (ok so : Bool) → IsDue p o IsState block a ok → IsDue p o IsState block b so → (ok ≡ so) × (a ≡ b)
-  one_due a b _ _ (Completes xs x c) (Completes ys y d) =
-      (refl, complete_once xs a b c (subst (λ s. CompleteWith p (IsState s) s (block s) b) (sym (one_schedule xs ys x y)) d))
-  one_due a b _ _ (Completes xs x c) (StopsShort ys y d) =
-      absurd (complete_or_stopped xs a b c (subst (λ s. StoppedWith p (IsTurnAfter p o s) s (block s) b) (sym (one_schedule xs ys x y)) d))
-  one_due a b _ _ (StopsShort xs x c) (Completes ys y d) =
-      absurd (complete_or_stopped ys b a d (subst (λ s. StoppedWith p (IsTurnAfter p o s) s (block s) a) (one_schedule xs ys x y) c))
-  one_due a b _ _ (StopsShort xs x c) (StopsShort ys y d) =
-      (refl, stopped_once xs a b c (subst (λ s. StoppedWith p (IsTurnAfter p o s) s (block s) b) (sym (one_schedule xs ys x y)) d))
+  pub one_due : (a b : List ℕ) (ok so : Bool) → IsDue p MayRun MayBeNext IsEnd block a ok → IsDue p MayRun MayBeNext IsEnd block b so → (ok ≡ so) × (a ≡ b)
+  one_due a b _ _ (Completes xs x c) (Completes ys y d) = (refl, complete_once xs a b c (subst (λ s. Complete s b) (sym (one_schedule xs ys x y)) d))
+  one_due a b _ _ (Completes xs x c) (StopsShort ys y d) = absurd (complete_or_stopped xs a b c (subst (λ s. Stopped s b) (sym (one_schedule xs ys x y)) d))
+  one_due a b _ _ (StopsShort xs x c) (Completes ys y d) = absurd (complete_or_stopped ys b a d (subst (λ s. Stopped s a) (one_schedule xs ys x y) c))
+  one_due a b _ _ (StopsShort xs x c) (StopsShort ys y d) = (refl, stopped_once xs a b c (subst (λ s. Stopped s b) (sym (one_schedule xs ys x y)) d))
+
+-- ---- the orders
+module _ (p : Programs) (o : Order) where
+  pub one_schedule_of : (xs ys : List ℕ) → IsScheduleOf p o xs → IsScheduleOf p o ys → xs ≡ ys
+  one_schedule_of xs ys a b = one_order p (state_at_start p) (order_words o) xs ys a b
+
+  pub one_turn_after : (schedule : List ℕ) (q r : ℕ) → IsTurnAfter p o schedule q → IsTurnAfter p o schedule r → q ≡ r
+  one_turn_after schedule q r a b = around_unique p (replay p schedule).tables (order_words o (length schedule) % length p.ranks) q r a b
 
 -- ---- a machine that was played
 stops_there : (p : Programs) (s : State) (start rank : ℕ) (c : Cause) → StopsAround p s start rank c → Stops p s (IsFirstAround p s.tables start) rank c

@@ -10,7 +10,7 @@ use Rattle.qm_denot.specs.Stores.{Store}
 use Rattle.qm_denot.proofs.Unique.{exponent_at_most}
 use Rattle.qm_eval.specs.Holding.{HoldsCircuit}
 use Rattle.qm_ideal.proofs.RunBounds.{letters_bound}
-use Rattle.qm_bits.specs.Numbers.{number_of_bits}
+use Rattle.qm_instr.specs.Bits.{number_of_bits}
 use Rattle.qm_proto.specs.Model.Ideal.{ideal_replay}
 use Rattle.qm_instr.specs.declared.Instr.{Instr}
 use Rattle.qm_instr.specs.declared.Instr.TheVariants as instr
@@ -26,7 +26,7 @@ use Rattle.qm_print.specs.Slots.{full_slots, slots_text, slot_lines}
 use Rattle.qm_print.specs.StateText.{branch_lines, head_lines, state_lines}
 use Rattle.qm_tool.specs.Ends.{HeadSays, text_under}
 use Rattle.qm_tool.proofs.OneViews.{same_letters, same_bits, same_slots}
-use Rattle.qm_runs.proofs.Tables.Counting.{halvings-le}
+use Rattle.qm_proto.proofs.Counting.{halvings-le}
 
 -- the lines of numbers that are the same for each rank
 pub bits_lines-same : (n : ℕ) (f g : ℕ → ℕ) → ((r : ℕ) → r < n → f r ≡ g r) → bits_lines n f ≡ bits_lines n g

@@ -1,5 +1,5 @@
 -- No line names a lane of answers
-use Rattle.std.proofs.Common.{◌≡◌, ◌≢◌, ℕ, ◌==◌, nat_lt, Bool, true, false, ◌||◌, ◌&&◌, if◌then◌else◌, List, Option, Some, None, length, sum_by, take, slice_get, refl, sym, ap, subst}
+use Rattle.std.proofs.Common.{◌≡◌, ◌≢◌, ℕ, ◌==◌, nat_lt, Bool, true, false, ◌||◌, ◌&&◌, if◌then◌else◌, List, Option, Some, None, length, sum_by, take, slice_get, refl, ap, subst}
 use Rattle.std.proofs.lemmas.Option.{same_Some, none-some}
 use Rattle.std.specs.Option.{option_or}
 use Rattle.qm_instr.specs.declared.Instr.{Instr}
@@ -12,21 +12,16 @@ use Rattle.qm_check.specs.declared.Fault.{Fault}
 use Rattle.qm_check.specs.declared.Fault.TheVariants as fault
 use Rattle.qm_check.specs.declared.Uses.{Uses}
 use Rattle.qm_check.specs.declared.Uses.TheVariants.{Nothing, Fills, Keeps, Empties, Joins}
-use Rattle.qm_check.specs.Checks.{Place, Width, Step, Between, Tape, fault_at, IsFirstFault, capacity_of, most_capacity}
+use Rattle.qm_check.specs.Checks.{Site, AllRanks, AtInstr, OnLane, OnTape, fault_at, IsFirstFault, capacity_of, most_capacity}
 use Rattle.qm_check.specs.Messages.{is_back, lane_sends, lane_receives, match_fault}
 use Rattle.qm_check.specs.Operands.{partner_of, uses_of}
 use Rattle.qm_check.specs.Slots.{partner_fault, slot_fault, fault_if_any, full_after}
 use Rattle.qm_expand.specs.declared.ReadError.{ReadError}
 use Rattle.qm_expand.specs.declared.ReadError.TheVariants as error
-use Rattle.qm_machine.specs.Keeps.{MachineView}
 use Rattle.qm_print.specs.declared.FaultLine.{FaultLine}
 use Rattle.qm_print.specs.declared.FaultLine.TheVariants as line
 use Rattle.qm_print.specs.FaultText.{NamesNoAnswers}
-use Rattle.qm_tool.specs.declared.reading.Unread.{Unread}
-use Rattle.qm_tool.specs.declared.reading.Unread.TheVariants.{Refused}
 use Rattle.qm_tool.specs.Due.{reading_fault, IsRefusedFor, Misread, Faulty}
-use Rattle.qm_tool.specs.Reading.{Explains}
-use Rattle.qm_tool.specs.Running.{IsStopOf, MayPutStop}
 
 -- the fault, if there is one, names no lane of answers
 abbrev Names : Option Fault → Type 0
@@ -80,12 +75,12 @@ at_lane a sends receives = by_tests (is_back a.kind) (sends == receives) refl
     by_tests false true e = tt
     by_tests false false e = not_back a.kind e
 
-at_place : (p : Programs) (a : Place) → Names (fault_at p a)
-at_place p Width = if_any (nat_lt (most_capacity p.version) (capacity_of p)) (fault.TooWide (capacity_of p)) tt
-at_place p (Step r k) = let is = (rank_of p r).instructions in at_instruction (length p.ranks) r k (full_after (take k is)) (slice_get is k)
-at_place p (Between a) = at_lane a (lane_sends p a) (lane_receives p a)
-at_place p (Tape r true) = let needs = sum_by own_of (rank_of p r).instructions in let has = length (rank_of p r).own in if_not (needs == has) (fault.TapeLength r true needs has) tt
-at_place p (Tape r false) = let needs = sum_by protocol_of (rank_of p r).instructions in let has = length (rank_of p r).protocol in if_not (needs == has) (fault.TapeLength r false needs has) tt
+at_place : (p : Programs) (a : Site) → Names (fault_at p a)
+at_place p AllRanks = if_any (nat_lt (most_capacity p.version) (capacity_of p)) (fault.TooWide (capacity_of p)) tt
+at_place p (AtInstr r k) = let is = (rank_of p r).instructions in at_instruction (length p.ranks) r k (full_after (take k is)) (slice_get is k)
+at_place p (OnLane a) = at_lane a (lane_sends p a) (lane_receives p a)
+at_place p (OnTape r true) = let needs = sum_by own_of (rank_of p r).instructions in let has = length (rank_of p r).own in if_not (needs == has) (fault.TapeLength r true needs has) tt
+at_place p (OnTape r false) = let needs = sum_by protocol_of (rank_of p r).instructions in let has = length (rank_of p r).protocol in if_not (needs == has) (fault.TapeLength r false needs has) tt
 
 -- ---- so the first fault of programs names none, and no other line of a refusal names a lane
 first_fault-names : (p : Programs) (f : Fault) → IsFirstFault p f → NamesNoAnswers (line.Unready f)
@@ -102,14 +97,6 @@ misread-names (error.OutOfRange n) f is = subst NamesNoAnswers (same_Some _ _ is
 misread-names (error.TooMany n) f is = subst NamesNoAnswers (same_Some _ _ is) tt
 misread-names error.Memory f is = absurd (none-some f is)
 
-IsRefusedFor-names : (text : List ℕ) (f : FaultLine) → IsRefusedFor text f → NamesNoAnswers f
+pub IsRefusedFor-names : (text : List ℕ) (f : FaultLine) → IsRefusedFor text f → NamesNoAnswers f
 IsRefusedFor-names text f (Misread e _ a is) = misread-names e f is
 IsRefusedFor-names text _ (Faulty p x a h) = first_fault-names p x h
-
-pub refusal-names : (text : List ℕ) (e : Unread) (f : FaultLine) → e ≡ Refused f → Explains text e → NamesNoAnswers f
-refusal-names text e f is x = IsRefusedFor-names text f (subst (Explains text) is x)
-
--- and the line of a stop names none
-pub stop-names : {A : Type 0} (m : MachineView A) (stop : Option FaultLine) → IsStopOf m stop → MayPutStop stop
-stop-names m None is = tt
-stop-names m (Some f) is = subst NamesNoAnswers (sym is.2) tt

@@ -17,7 +17,6 @@ pub mod AnswerLemmas
 pub mod MakingSizes
 pub mod SomeReading
 pub mod SomeFaults
-pub mod SomeRuns
 pub mod SomeCircuits
+pub mod SomeRuns
 pub mod SomeAnswers
-pub mod JobLemmas

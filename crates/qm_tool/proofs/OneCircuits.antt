@@ -13,18 +13,18 @@ use Rattle.qm_instr.specs.Programs.{Programs, IsInRange}
 use Rattle.qm_proto.specs.Model.Schedules.{replay, protocol_total}
 use Rattle.qm_proto.specs.Model.Ideal.{ideal_replay, AllDone}
 use Rattle.qm_proto.proofs.Firsts.{one_run_unique}
-use Rattle.qm_tool.specs.Dues.{IsDue, Completes, StopsShort}
-use Rattle.qm_runs.specs.Headline.{ComesToOne}
-use Rattle.qm_runs.proofs.Headline.{headline_law}
-use Rattle.qm_bits.specs.Numbers.{number_of_bits}
+use Rattle.qm_tool.specs.Dues.{IsDue, Completes, StopsShort, IsScheduleOf, IsTurnAfter}
+use Rattle.qm_simulation.specs.Headline.{ComesToOne}
+use Rattle.qm_simulation.proofs.Laws.{headline_law}
+use Rattle.qm_instr.specs.Bits.{number_of_bits}
 use Rattle.qm_print.specs.Slots.{full_slots}
 use Rattle.qm_print.specs.StateText.{state_lines}
 use Rattle.qm_tool.specs.declared.command.Command.{Command}
 use Rattle.qm_tool.specs.declared.command.Command.TheVariants as command
 use Rattle.qm_tool.specs.declared.command.Play.{Play}
 use Rattle.qm_tool.specs.declared.status.Status.TheVariants as status
-use Rattle.qm_tool.specs.Commands.{order_of, block_of}
-use Rattle.qm_tool.specs.Due.{EndsWith, IsTextAfter, IsOneText, IsOneTextWith, IsWithBlock, StatesOneCircuit, WaitsWith, AnswersReady, AgreesWithRun}
+use Rattle.qm_tool.specs.Commands.{block_of}
+use Rattle.qm_tool.specs.Due.{EndsWith, IsTextAfter, IsOneText, IsWithBlock, StatesOneCircuit, WaitsWith, OnReady, ReadsReady, Ends, Values, DrawsNone, ValuesNone, DueOf, Ready, OneCircuitLaw}
 use Rattle.qm_tool.proofs.AnswerLaws.{IsOneText-one}
 use Rattle.qm_tool.proofs.ReadingLaws.{ReadsReady-one}
 
@@ -62,42 +62,42 @@ module _ (p : Programs) where
 
 -- the text of a run that is complete is that of the one circuit
 complete_one : (play : Play) (p : Programs) (bytes : List ℕ) (complete : Bool) → IsReady p → IsInRange p
-    → IsDue p (order_of play) (IsTextAfter p) (block_of play p) bytes complete → complete ≡ true → IsOneTextWith play p bytes
+    → IsDue p (IsScheduleOf p play.order) (IsTurnAfter p play.order) (IsTextAfter p) (λ c schedule. block_of play.listing c p schedule) bytes complete
+    → complete ≡ true → StatesOneCircuit play p bytes
 complete_one play p bytes _ ready in_range (Completes schedule order due) is =
     let law = headline_law p ready in_range schedule due.complete in
     record {
-      state = due.state;
-      one = one_text p schedule law.0 due.state law.1 due.so;
+      state = due.end;
+      one = one_text p schedule law.0 due.end law.1 due.so;
       blocked = record { schedule = schedule; order = order; whole = due.whole };
     }
 complete_one play p bytes _ ready in_range (StopsShort schedule order due) is = cc
 
-pub EndsWith-one_circuit : (play : Play) (text bytes : List ℕ) → EndsWith play text bytes → StatesOneCircuit play text bytes
-EndsWith-one_circuit play text bytes e =
-    record { programs = e.programs; reads = e.reads; so = complete_one play e.programs bytes true e.reads.ready e.so.in_range e.so.due refl }
+pub EndsWith-one_circuit : (play : Play) (p : Programs) (bytes : List ℕ) → IsReady p → EndsWith play p bytes → StatesOneCircuit play p bytes
+EndsWith-one_circuit play p bytes ready e = complete_one play p bytes true ready e.in_range e.due refl
 
 -- so the amplitudes of the one circuit are those of the run, and the ideal run doesn't end early
 waits_not : (p : Programs) (left : ℕ) (state : List ℕ) → IsOneText p state → EndsEarly p left → ⊥
 waits_not p left state one e = e.early (subst (λ rs. AllDone p (ideal_replay p rs).tables) (one_run_unique p one.run e.ranks one.one e.run) one.done)
 
-module _ (text : List ℕ) where
-  ready_waits : (c : Command) (other : List ℕ) (p : Programs) → AnswersReady status.Waits c p other → WaitsWith p other
-  ready_waits (command.Run play) other p d = absurd d
-  ready_waits command.Mono other p d = d
-  ready_waits command.MonoAmps other p d = d
-  ready_waits command.Check other p d = absurd d
+module _ (play : Play) (text bytes : List ℕ) (p : Programs) (reads : ReadsReady text p) (one : StatesOneCircuit play p bytes) where
+  amplitudes_so : (state : List ℕ) → DueOf text state command.MonoAmps status.Ok → OnReady (λ q. IsWithBlock play q state) text bytes
+  amplitudes_so state (Ready c s q read_too (Values d)) =
+      let same = ReadsReady-one text q p read_too reads in
+      let text_so = IsOneText-one p one.state state one.one (subst (λ (x : Programs). IsOneText x state) same d.text) in
+      record { programs = p; reads = reads; so = subst (λ x. IsWithBlock play p x bytes) text_so one.blocked }
 
-  pub agrees : (play : Play) (bytes : List ℕ) → EndsWith play text bytes → AgreesWithRun play text bytes
-  agrees play bytes e =
-      let one = EndsWith-one_circuit play text bytes e in
-      let p = one.programs in
-      record {
-        amplitudes = λ state d.
-            let same = ReadsReady-one text d.programs p d.reads one.reads in
-            let text_so = IsOneText-one p one.so.state state one.so.one (subst (λ (q : Programs). IsOneText q state) same d.so.text) in
-            record { programs = p; reads = one.reads; so = subst (λ x. IsWithBlock play p x bytes) text_so one.so.blocked };
-        goes_on = λ c other d.
-            let same = ReadsReady-one text d.programs p d.reads one.reads in
-            let waits = subst (λ (q : Programs). WaitsWith q other) same (ready_waits c other d.programs d.so) in
-            waits_not p waits.left one.so.state one.so.one waits.early;
-      }
+  not_early : (q : Programs) (other : List ℕ) → ReadsReady text q → WaitsWith q other → ⊥
+  not_early q other read_too waits =
+      let same = ReadsReady-one text q p read_too reads in
+      let here = subst (λ (x : Programs). WaitsWith x other) same waits in
+      waits_not p here.left one.state one.one here.early
+
+  goes_on_so : (c : Command) (other : List ℕ) → DueOf text other c status.Waits → ⊥
+  goes_on_so c other (Ready c' s q read_too (DrawsNone d)) = not_early q other read_too d
+  goes_on_so c other (Ready c' s q read_too (ValuesNone d)) = not_early q other read_too d
+
+pub agrees : OneCircuitLaw
+agrees play text bytes (Ready c s p reads (Ends how e)) =
+    let one = EndsWith-one_circuit play p bytes reads.ready e in
+    record { amplitudes = amplitudes_so play text bytes p reads one; goes_on = goes_on_so play text bytes p reads one }

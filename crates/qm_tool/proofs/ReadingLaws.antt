@@ -1,8 +1,11 @@
 -- A text reads as programs without a fault in one way at most, or is refused for one reason at most, and never both
-use Rattle.std.proofs.Common.{◌≡◌, ◌≢◌, ℕ, List, Some, Result, Ok, Err, refl, sym, ap, subst, ◌∙◌}
+use Rattle.std.proofs.Common.{◌≡◌, ◌≢◌, ℕ, List, Option, Some, None, Result, Ok, Err, refl, sym, ap, subst, ◌∙◌}
 use Rattle.std.proofs.lemmas.Option.{same_Some, none-some}
 use Rattle.qm_instr.specs.Programs.{Programs}
+use Rattle.qm_check.specs.declared.CheckError.{CheckError}
+use Rattle.qm_check.specs.declared.CheckError.TheVariants as check_error
 use Rattle.qm_check.specs.Checks.{IsReady, IsFirstFault}
+use Rattle.qm_check.specs.Errors.{TellsFirstFault}
 use Rattle.qm_expand.specs.declared.ReadError.{ReadError}
 use Rattle.qm_expand.specs.declared.ReadError.TheVariants as error
 use Rattle.qm_expand.specs.Reading.{Reads}
@@ -11,6 +14,8 @@ use Rattle.qm_print.specs.declared.FaultLine.{FaultLine}
 use Rattle.qm_print.specs.declared.FaultLine.TheVariants as line
 use Rattle.qm_tool.specs.declared.status.Status.TheVariants as status
 use Rattle.qm_tool.specs.Due.{ReadsReady, reading_fault, IsRefusedFor, Misread, Faulty}
+use Rattle.qm_tool.specs.Reading.{IsUnready}
+use Rattle.qm_tool.specs.Refusals.{check_refusal, line_or_memory, reading_refusal}
 use Rattle.qm_tool.specs.Statuses.{status_of_fault}
 use Rattle.qm_check.proofs.FirstFaults.{first_fault-one, ready-no_fault}
 
@@ -72,3 +77,16 @@ reading_fault-refused error.Memory f is = absurd (none-some f is)
 pub IsRefusedFor-status : (text : List ℕ) (f : FaultLine) → IsRefusedFor text f → status_of_fault f ≡ status.Refused
 IsRefusedFor-status text f (Misread e _ a is) = reading_fault-refused e f is
 IsRefusedFor-status text _ (Faulty p x a h) = refl
+
+-- ---- what an error of reading or of the check says of the text
+module _ (text : List ℕ) where
+  pub misread-unready : (e : ReadError) → Reads text (Err e) → IsUnready text (reading_refusal e)
+  misread-unready e h = by_line (reading_fault e) refl
+    where
+      by_line : (o : Option FaultLine) → reading_fault e ≡ o → IsUnready text (line_or_memory o)
+      by_line None is = tt
+      by_line (Some f) is = Misread e f h is
+
+  pub faulty-unready : (p : Programs) (e : CheckError) → Reads text (Ok p) → TellsFirstFault p e → IsUnready text (check_refusal e)
+  faulty-unready p (check_error.Fault f) h first = Faulty p f h first
+  faulty-unready p check_error.Memory h x = tt

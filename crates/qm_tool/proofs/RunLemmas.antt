@@ -1,59 +1,120 @@
--- What is due where a machine was played: the text of its end, or the line of where and why it stopped
-use Rattle.std.proofs.Common.{◌≡◌, ℕ, ◌⊎◌, inl, inr, Bool, true, false, List, ◌++◌, Option, Some, None, refl, sym, ap, subst}
+-- What is due where a machine was played: the text of its end, or the line of where and why it stopped, and the block
+use Rattle.std.proofs.Common.{◌≡◌, ◌∙◌, ℕ, List, ◌++◌, Option, Some, None, false, length, refl, sym, ap, subst, ⊎_elim}
+use Rattle.std.specs.Prelude.{is_none}
+use Rattle.std.proofs.Math.Nat.{add-zero}
+use Rattle.std.proofs.lemmas.List.{append-nil}
 use Rattle.qm_denot.specs.Stores.{Store}
 use Rattle.qm_instr.specs.Programs.{Programs}
+use Rattle.qm_instr.specs.Bits.{number_of_bits}
 use Rattle.qm_machine.specs.declared.Halt.{Halt}
-use Rattle.qm_machine.specs.Keeps.{HasEnded}
-use Rattle.qm_print.specs.declared.FaultLine.{FaultLine}
-use Rattle.qm_print.specs.declared.FaultLine.TheVariants as line
+use Rattle.qm_machine.specs.Keeps.{HasEnded, state_of}
+use Rattle.qm_proto.specs.Model.Schedules.{protocol_total}
+use Rattle.qm_print.specs.declared.Live.{Live}
 use Rattle.qm_print.specs.FaultText.{stopped_line}
+use Rattle.qm_print.specs.JobText.{job_text}
+use Rattle.qm_print.specs.Slots.{full_slots}
+use Rattle.qm_print.specs.StateText.{line_count, state_lines}
+use Rattle.qm_tool.specs.declared.command.Command.TheVariants as command
 use Rattle.qm_tool.specs.declared.command.Play.{Play}
+use Rattle.qm_tool.specs.declared.command.Recipe.{Recipe}
 use Rattle.qm_tool.specs.declared.running.Run.{Run}
-use Rattle.qm_tool.specs.Commands.{order_of}
-use Rattle.qm_tool.specs.Dues.{IsDue, Completes, StopsShort, HaltStops}
-use Rattle.qm_tool.specs.Running.{IsRun, IsStopOf, status_where, text_where}
-use Rattle.qm_tool.proofs.AnswerLaws.{status_of_run}
+use Rattle.qm_tool.specs.Commands.{block_of, kind_word, plain}
+use Rattle.qm_tool.specs.Dues.{Completes, StopsShort, HaltStops}
+use Rattle.qm_tool.specs.Due.{IsJobText, IsTextAfter, RunsTo, WorksTo, DueReady, Ends, Stops, Works, Breaks}
+use Rattle.qm_tool.specs.Ends.{bits_in, text_under}
+use Rattle.qm_tool.specs.Running.{IsRun, job_numbers, run_status, run_text, status_where, text_where, work_text}
+use Rattle.qm_tool.proofs.EndLemmas.{HeadSays-text}
 
--- with any text of its end, and any block
-module _ {A : Type 0} (store : A → Store) (play : Play) (p : Programs) (run : Run A) (on : IsRun store play p run)
-    (IsState : List ℕ → List ℕ → Type 0) (block : List ℕ → List ℕ) (state : List ℕ) (so : IsState run.machine.schedule state) where
-  abbrev IsDueAs : List ℕ → Bool → Type 0
-  IsDueAs bytes complete = IsDue run.machine.programs (order_of play) IsState block bytes complete
+module _ {A : Type 0} (store : A → Store) (play : Play) (p : Programs) (run : Run A) (on : IsRun store play p run) where
+  -- with any text of its end
+  module _ (IsEnd : Programs → List ℕ → List ℕ → Type 0) (end : List ℕ) (so : IsEnd run.machine.programs run.machine.schedule end) where
+    abbrev bytes_where : Option Halt → Play → List ℕ
+    bytes_where h how = text_where end h ++ block_of how.listing (is_none h) run.machine.programs run.machine.schedule
 
-  -- the status says whether the run is complete
-  abbrev pub RunDue : Option FaultLine → Type 0
-  RunDue stop = (complete : Bool) × (status_where stop ≡ status_of_run complete) × IsDueAs (text_where state stop ++ block run.machine.schedule) complete
+    abbrev RunDue : Option Halt → Type 0
+    RunDue h = RunsTo (is_none h) play IsEnd run.machine.programs (bytes_where h play)
 
-  ended_to : HasEnded run.machine → RunDue None
-  ended_to ended = (
-    true,
-    refl,
-    Completes run.machine.schedule on.played.schedule (record { complete = record { legal = on.played.legal; ended = ended.ended }; state = state; so = so; whole = refl }),
-  )
+    ended_to : HasEnded run.machine → RunDue None
+    ended_to ended = record {
+      in_range = on.in_range;
+      due = Completes run.machine.schedule on.played.schedule
+          (record { complete = record { legal = on.played.legal; ended = ended.ended }; end = end; so = so; whole = refl });
+    }
 
-  stopped_to : (h : Halt) → HaltStops (order_of play) run.machine h → RunDue (Some (line.Stopped h.rank h.turns h.cause))
-  stopped_to h stops = (
-    false,
-    refl,
-    StopsShort run.machine.schedule on.played.schedule (record {
-      legal = on.played.legal;
-      rank = h.rank;
-      cause = h.cause;
-      stops = stops.stops;
-      whole = ap (λ n. stopped_line h.rank n h.cause ++ block run.machine.schedule) stops.turns;
-    }),
-  )
+    stopped_to : (h : Halt) → HaltStops play.order run.machine h → RunDue (Some h)
+    stopped_to h stops = record {
+      in_range = on.in_range;
+      due = StopsShort run.machine.schedule on.played.schedule (record {
+        legal = on.played.legal;
+        rank = h.rank;
+        cause = h.cause;
+        stops = stops.stops;
+        whole = ap (λ n. stopped_line h.rank n h.cause ++ block_of play.listing false run.machine.programs run.machine.schedule) stops.turns;
+      });
+    }
 
-  due_of_halt : (f : FaultLine) (h k : Halt) → run.machine.halted ≡ Some h → run.machine.halted ≡ Some k → f ≡ line.Stopped h.rank h.turns h.cause → HaltStops (order_of play) run.machine k → RunDue (Some f)
-  due_of_halt f h k is so_is line_so stops =
-      let same : k ≡ h = cc in
-      subst (λ (g : FaultLine). RunDue (Some g)) (sym line_so) (stopped_to h (subst (λ (x : Halt). HaltStops (order_of play) run.machine x) same stops))
+    over_to : RunDue run.halt
+    over_to =
+        ⊎_elim (λ ended. subst RunDue (sym (on.halt_so ∙ ended.running)) (ended_to ended))
+        (λ h. subst RunDue (sym (on.halt_so ∙ h.1.0)) (stopped_to h.0 h.1.1)) on.played.over
 
-  due_of_stop : (stop : Option FaultLine) → IsStopOf run.machine stop → HasEnded run.machine ⊎ ((h : Halt) × ((run.machine.halted ≡ Some h) × HaltStops (order_of play) run.machine h)) → RunDue stop
-  due_of_stop None is (inl ended) = ended_to ended
-  due_of_stop None is (inr h) = let halted = h.1.0 in absurd (cc)
-  due_of_stop (Some f) is (inl ended) = let running = ended.running in let halted = is.1 in absurd (cc)
-  due_of_stop (Some f) is (inr h) = due_of_halt f is.0 h.0 is.1 h.1.0 is.2 h.1.1
+    pub run_due : RunsTo (is_none run.halt) play IsEnd p (bytes_where run.halt run.play)
+    run_due =
+        subst (λ (q : Programs). RunsTo (is_none run.halt) play IsEnd q (bytes_where run.halt run.play)) on.programs
+        (subst (λ (how : Play). RunsTo (is_none run.halt) play IsEnd run.machine.programs (bytes_where run.halt how)) (sym on.play_so) over_to)
 
-  pub run_due : RunDue run.stop
-  run_due = due_of_stop run.stop on.stop on.played.over
+  state_at_end : IsTextAfter run.machine.programs run.machine.schedule (text_under run.head run.live.items (store run.machine.amps).value)
+  state_at_end =
+      let m = run.machine in
+      let s = store m.amps in
+      record {
+        numerators = s.value;
+        exponent = s.exponent;
+        form = on.stands.form;
+        lines = HeadSays-text m.programs (bits_in m) s.exponent run.head run.live.items _ s.value on.head on.slots
+            ∙ ap (λ k. state_lines (length m.programs.ranks) (protocol_total m.programs) k (λ r. number_of_bits (bits_in m r)) (full_slots m.programs (state_of m).tables.slots) s.value)
+            (sym (add-zero s.exponent));
+      }
+
+  run_row : (h : Option Halt) (bytes : List ℕ) → RunsTo (is_none h) play IsTextAfter p bytes → DueReady p bytes (command.Run play) (status_where h)
+  run_row None bytes due = Ends play due
+  run_row (Some h) bytes due = Stops play due
+
+  -- what a running command writes is due
+  pub run-ready : DueReady p (run_text store run) (command.Run play) (run_status run)
+  run-ready = run_row run.halt (run_text store run) (run_due IsTextAfter _ state_at_end)
+
+-- and what is written of the run of a made program
+module _ {A : Type 0} (store : A → Store) (r : Recipe) (p : Programs) (run : Run A) (on : IsRun store plain p run) where
+  abbrev summary : List ℕ
+  summary = job_text (kind_word r.kind) (job_numbers store r run)
+
+  summary_at_end : IsJobText r run.machine.programs run.machine.schedule summary
+  summary_at_end =
+      let m = run.machine in
+      let s = store m.amps in
+      let with_head : ℕ → ℕ → List Live → List ℕ =
+      λ protocol scale live. job_text (kind_word r.kind)
+      (record { size = r.size; number = r.number; events = length m.schedule; protocol = protocol; scale = scale; lines = line_count s.value live }) in
+      record {
+        numerators = s.value;
+        exponent = s.exponent;
+        form = on.stands.form;
+        whole = ap (λ n. with_head n run.head.scale run.live.items) on.head.protocol
+            ∙ ap (λ n. with_head (protocol_total m.programs) n run.live.items) on.head.scale_so
+            ∙ ap (with_head (protocol_total m.programs) s.exponent) on.slots;
+      }
+
+  work_row : (h : Option Halt) (bytes : List ℕ) → WorksTo (is_none h) r p bytes → DueReady p bytes (command.Job r) (status_where h)
+  work_row None bytes due = Works r due
+  work_row (Some h) bytes due = Breaks r due
+
+  nothing_listed : text_where summary run.halt ++ block_of run.play.listing (is_none run.halt) run.machine.programs run.machine.schedule ≡ work_text store r run
+  nothing_listed =
+      ap (λ (how : Play). text_where summary run.halt ++ block_of how.listing (is_none run.halt) run.machine.programs run.machine.schedule) on.play_so
+      ∙ append-nil (work_text store r run)
+
+  pub work-ready : DueReady p (work_text store r run) (command.Job r) (run_status run)
+  work-ready =
+      work_row run.halt (work_text store r run)
+      (subst (WorksTo (is_none run.halt) r p) nothing_listed (run_due store plain p run on (IsJobText r) summary summary_at_end))

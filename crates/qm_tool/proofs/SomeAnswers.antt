@@ -1,6 +1,7 @@
 -- Something is due for all words and texts
-use Rattle.std.proofs.Common.{◌≡◌, ℕ, ◌≤◌, inl, inr, List, Option, Some, None, length, refl}
+use Rattle.std.proofs.Common.{◌≡◌, ℕ, ◌≤◌, inl, inr, List, Option, Some, None, length, refl, sym, subst}
 use Rattle.std.proofs.lemmas.Bool.{cases_lt}
+use Rattle.std.proofs.lemmas.Option.{none-some}
 use Rattle.qm_instr.specs.Programs.{Programs, IsInRange}
 use Rattle.qm_check.specs.Checks.{IsReady}
 use Rattle.qm_print.specs.declared.FaultLine.{FaultLine}
@@ -12,73 +13,67 @@ use Rattle.qm_tool.specs.declared.status.Status.{Status}
 use Rattle.qm_tool.specs.declared.status.Status.TheVariants as status
 use Rattle.qm_seed.specs.Seeds.{seed_words}
 use Rattle.qm_gen.proofs.MadeReads.{made-ready}
-use Rattle.qm_tool.specs.declared.command.Making.{Making}
-use Rattle.qm_tool.specs.declared.command.Making.TheVariants as making
-use Rattle.qm_tool.specs.Commands.{command_of, making_of, recipe_text, IsSizedMaking}
-use Rattle.qm_tool.specs.Due.{OnReady, IsRefusedFor, Faulty, AnswersReady, DueOf, DueOfMaking, Due, NoCommand, Makes, TooMuch, Whole, SomeAnswer}
+use Rattle.qm_tool.specs.Commands.{command_of, made_of, recipe_text, text_or, IsMakeable, IsOnPrograms}
+use Rattle.qm_tool.specs.Due.{ReadsReady, IsRefusedFor, Faulty, DueOf, Made, Refused, Ready, Due, NoCommand, TooMuch, Whole, SomeAnswer}
 use Rattle.qm_tool.proofs.SomeReading.{SomeReading, Read, Unread, some_reading}
 use Rattle.qm_expand.proofs.ReadRanges.{read_in_range}
 use Rattle.qm_tool.proofs.SomeFaults.{ready_or_first_fault}
-use Rattle.qm_tool.proofs.MakingSizes.{making_of-sized}
+use Rattle.qm_tool.proofs.MakingSizes.{command_of-makeable}
 use Rattle.qm_tool.proofs.SomeRuns.{some_run_answer, some_job_answer}
 use Rattle.qm_tool.proofs.SomeCircuits.{HasAnswer, some_mono_answer, some_amps_answer, some_check_answer}
 
 -- ---- programs without a fault
-ready_answer : (p : Programs) → IsReady p → IsInRange p → (c : Command) → HasAnswer p c
-ready_answer p ready ranges (command.Run play) = some_run_answer p ranges play
-ready_answer p ready ranges command.Mono = some_mono_answer p ready ranges
-ready_answer p ready ranges command.MonoAmps = some_amps_answer p ready ranges
-ready_answer p ready ranges command.Check = some_check_answer p
+ready_answer : (p : Programs) → IsReady p → IsInRange p → (c : Command) → IsOnPrograms c → HasAnswer p c
+ready_answer p ready ranges (command.Run play) on = some_run_answer p ranges play
+ready_answer p ready ranges (command.Job r) on = some_job_answer p ranges r
+ready_answer p ready ranges command.Mono on = some_mono_answer p ready ranges
+ready_answer p ready ranges command.MonoAmps on = some_amps_answer p ready ranges
+ready_answer p ready ranges command.Check on = some_check_answer p
+ready_answer p ready ranges (command.Gen r) on = absurd on
 
--- such programs are not refused
-never_refused : (c : Command) (p : Programs) (bytes : List ℕ) → AnswersReady status.Refused c p bytes → ⊥
-never_refused (command.Run play) p bytes h = absurd h
-never_refused command.Mono p bytes h = absurd h
-never_refused command.MonoAmps p bytes h = absurd h
-never_refused command.Check p bytes h = absurd h
-
--- ---- a text that came whole
-module _ (c : Command) (text : List ℕ) (short : length text ≤ 1048576) where
+-- ---- the text of a command's program
+module _ (c : Command) (text : List ℕ) where
   abbrev Answer : Type 0
-  Answer = (s : Status) × (bytes : List ℕ) × DueOf c text s bytes
+  Answer = (s : Status) × (bytes : List ℕ) × DueOf text bytes c s
 
-  of_ready : (s : Status) (bytes : List ℕ) → OnReady (AnswersReady s c) text bytes → DueOf c text s bytes
-  of_ready status.Refused bytes h = absurd (never_refused c h.programs bytes h.so)
-  of_ready s bytes h = h
+  of_programs : (p : Programs) → ReadsReady text p → IsInRange p → IsOnPrograms c → Answer
+  of_programs p reads ranges on = let a = ready_answer p reads.ready ranges c on in (a.0, a.1, Ready c a.0 p reads a.2)
 
-  refused : (f : FaultLine) → IsRefusedFor text f → Answer
-  refused f h = (status.Refused, fault_text f, record { fault = f; refused = h; whole = refl })
+  refused : made_of c ≡ None → (f : FaultLine) → IsRefusedFor text f → Answer
+  refused given f h = (status.Refused, fault_text f, Refused c given (record { fault = f; refused = h; whole = refl }))
 
-  answer : SomeReading text → Answer
-  answer (Unread f h) = refused f h
-  answer (Read p reads) = elim (ready_or_first_fault p) [
-    | inr (f, first) ↦ refused (line.Unready f) (Faulty p f reads first)
-    | inl ready ↦ (
-        let a = ready_answer p ready (read_in_range text p short reads) c in
-        (a.0, a.1, of_ready a.0 a.1 (record { programs = p; reads = record { reads = reads; ready = ready }; so = a.2 }))
+  given_answer : made_of c ≡ None → IsOnPrograms c → length text ≤ 1048576 → SomeReading text → Answer
+  given_answer given on short (Unread f h) = refused given f h
+  given_answer given on short (Read p reads) = elim (ready_or_first_fault p) [
+    | inr (f, first) ↦ refused given (line.Unready f) (Faulty p f reads first)
+    | inl ready ↦ of_programs p (record { reads = reads; ready = ready }) (read_in_range text p short reads) on
+  ]
+
+-- ---- a command
+module _ (given : List ℕ) where
+  abbrev SomeDue : Option Command → Type 0
+  SomeDue o = (s : Status) × (bytes : List ℕ) × Due given bytes o s
+
+  of_source : (c : Command) → made_of c ≡ None → IsOnPrograms c → text_or (made_of c) given ≡ given → SomeDue (Some c)
+  of_source c none on same = elim (cases_lt 1048576 (length given)) [
+    | inl long ↦ (status.TooLong, fault_text line.TooLong, TooMuch c none long refl)
+    | inr short ↦ (
+        let a = given_answer c given none on short (some_reading given short) in
+        (a.0, a.1, Whole c a.0 (λ e. short) (subst (λ t. DueOf t a.1 c a.0) (sym same) a.2))
         )
   ]
 
--- ---- a command on a made program
-making_answer : (m : Making) → IsSizedMaking m → (s : Status) × (bytes : List ℕ) × DueOfMaking m s bytes
-making_answer (making.Gen r) sized = (status.Ok, recipe_text r, refl)
-making_answer (making.Job r) sized = some_job_answer r (made-ready r.kind r.size (seed_words r.number) sized)
+  some_due : (c : Command) → IsMakeable c → SomeDue (Some c)
+  some_due (command.Gen r) sized = (status.Ok, recipe_text r, Whole (command.Gen r) status.Ok (λ e. absurd (none-some r (sym e))) (Made r refl))
+  some_due (command.Job r) sized =
+      let made = made-ready r.kind r.size (seed_words r.number) sized in
+      let a = of_programs (command.Job r) (recipe_text r) made.programs (record { reads = made.reads; ready = made.ready }) made.in_range tt in
+      (a.0, a.1, Whole (command.Job r) a.0 (λ e. absurd (none-some r (sym e))) a.2)
+  some_due c sized = of_source c refl tt refl
 
--- ---- all words and texts
-module _ (words : List (List ℕ)) (text : List ℕ) where
-  abbrev SomeDue : Type 0
-  SomeDue = (s : Status) × (bytes : List ℕ) × Due words text s bytes
-
-  by_making : command_of words ≡ None → (o : Option Making) → making_of words ≡ o → SomeDue
-  by_making e None f = (status.Usage, fault_text line.Usage, NoCommand (record { reads_none = e; makes_none = f }))
-  by_making e (Some m) f = let a = making_answer m (making_of-sized words m f) in (a.0, a.1, Makes m a.0 a.1 f a.2)
-
-  by_command : (o : Option Command) → command_of words ≡ o → SomeDue
-  by_command None e = by_making e (making_of words) refl
-  by_command (Some c) e = elim (cases_lt 1048576 (length text)) [
-    | inl long ↦ (status.TooLong, fault_text line.TooLong, TooMuch c e long)
-    | inr short ↦ (let a = answer c text short (some_reading text short) in (a.0, a.1, Whole c a.0 a.1 e short a.2))
-  ]
+  of_words : (o : Option Command) → ((c : Command) → o ≡ Some c → IsMakeable c) → SomeDue o
+  of_words None sized = (status.Usage, fault_text line.Usage, NoCommand refl)
+  of_words (Some c) sized = some_due c (sized c refl)
 
 pub some_answer : SomeAnswer
-some_answer words text = by_command words text (command_of words) refl
+some_answer words given = of_words given (command_of words) (command_of-makeable words)

@@ -15,7 +15,7 @@ use Rattle.qm_instr.specs.declared.Instr.{Instr}
 use Rattle.qm_instr.specs.Programs.{Programs, RankProgram, idle_rank, rank_of, IsInRange}
 use Rattle.qm_check.specs.declared.Uses.{Uses}
 use Rattle.qm_check.specs.declared.Uses.TheVariants.{Nothing, Fills, Keeps, Empties, Joins}
-use Rattle.qm_check.specs.Checks.{IsReady}
+use Rattle.qm_check.specs.Checks.{IsReady, most_capacity}
 use Rattle.qm_check.specs.Operands.{uses_of}
 use Rattle.qm_check.specs.Slots.{HasFewSlots, is_full_after, full_after}
 use Rattle.qm_check.proofs.Faultless.{before}
@@ -27,14 +27,14 @@ use Rattle.qm_proto.specs.Model.Schedules.{protocol_total, tables_at_start, with
 use Rattle.qm_proto.specs.Model.Runs.{next_tables}
 use Rattle.qm_proto.specs.Model.Ideal as model
 use Rattle.qm_proto.specs.Model.Ideal.{IdealState, ideal_replay, IsOneRun, has_instr, AllDone}
-use Rattle.qm_runs.proofs.Confluence.Confluent.{IsLeast, least}
-use Rattle.qm_runs.proofs.Confluence.NamedWires.{state_of_run}
-use Rattle.qm_runs.proofs.Endings.Tests.{test_fails_or_not}
-use Rattle.qm_bits.specs.Numbers.{number_of_bits}
+use Rattle.qm_confluence.proofs.Confluence.Confluent.{IsLeast, least}
+use Rattle.qm_confluence.proofs.Confluence.NamedWires.{state_of_run}
+use Rattle.qm_confluence.proofs.Endings.Tests.{test_fails_or_not}
+use Rattle.qm_instr.specs.Bits.{number_of_bits}
 use Rattle.qm_ideal.specs.OneCircuits.{wires_in, RankEnd, OneView, bits_of, slot_of, IsOneCircuit, left_from, EndsEarly}
-use Rattle.qm_runs.specs.Stuck.Rendezvous.{IsRendezvous}
-use Rattle.qm_runs.proofs.Endings.IdealRuns as ideal_runs
-use Rattle.qm_runs.proofs.Stuck.Meetings as meetings
+use Rattle.qm_confluence.specs.Stuck.Rendezvous.{IsRendezvous}
+use Rattle.qm_confluence.proofs.Endings.IdealRuns as ideal_runs
+use Rattle.qm_confluence.proofs.Stuck.Meetings as meetings
 use Rattle.qm_eval.specs.Overflows.{OverflowsAt, IsFirstOverflow, NeverOverflows}
 use Rattle.qm_print.specs.declared.FaultLine.TheVariants as line
 use Rattle.qm_print.specs.CheckText.{check_text}
@@ -46,8 +46,7 @@ use Rattle.qm_tool.specs.declared.command.Command.{Command}
 use Rattle.qm_tool.specs.declared.command.Command.TheVariants as command
 use Rattle.qm_tool.specs.declared.status.Status.{Status}
 use Rattle.qm_tool.specs.declared.status.Status.TheVariants as status
-use Rattle.qm_limits.specs.declared.TheConstants.{MOST_CAPACITY_1}
-use Rattle.qm_tool.specs.Due.{IsOneText, AnswersReady}
+use Rattle.qm_tool.specs.Due.{IsOneText, DueReady, Draws, DrawsNone, Values, ValuesNone, TooWide, Overflows, Checks}
 use Rattle.qm_proto.proofs.Meetings.{same_or_below}
 use Rattle.qm_proto.proofs.Firsts.{one_run-ideal}
 
@@ -214,7 +213,7 @@ module _ (c : Circuit) where
 
 -- ---- the answers
 abbrev pub HasAnswer : Programs → Command → Type 0
-HasAnswer p c = (s : Status) × (bytes : List ℕ) × AnswersReady s c p bytes
+HasAnswer p c = (s : Status) × (bytes : List ℕ) × DueReady p bytes c s
 
 module _ (p : Programs) (ready : IsReady p) (ranges : IsInRange p) where
   pub some_mono_answer : HasAnswer p command.Mono
@@ -224,21 +223,21 @@ module _ (p : Programs) (ready : IsReady p) (ranges : IsInRange p) where
       elim (least (has_instr p tables) (length p.ranks)) [
         | inl done ↦
             let m = view p ready ranges run.ranks run.run in
-            (status.Ok, circuit_text p m, record { circuit = m; one = view_one p ready ranges run.ranks run.run done; whole = refl })
+            (status.Ok, circuit_text p m, Draws (record { circuit = m; one = view_one p ready ranges run.ranks run.run done; whole = refl }))
         | inr (k, low) ↦
             let left = left_from p tables 0 (length p.ranks) in
-            (status.Waits, fault_text (line.Waits left), record { left = left; early = early p ready ranges run.ranks run.run k low; whole = refl })
+            (status.Waits, fault_text (line.Waits left), DrawsNone (record { left = left; early = early p ready ranges run.ranks run.run k low; whole = refl }))
       ]
 
   amps_of : (m : OneView) → IsOneCircuit p m → (text : List ℕ) × IsOneText p text → HasAnswer p command.MonoAmps
-  amps_of m one text = elim (cases_lt MOST_CAPACITY_1 m.width) [
-    | inl wide ↦ (status.Wide, fault_text (line.Wide m.width), record { circuit = m; one = one; wide = wide; whole = refl })
+  amps_of m one text = elim (cases_lt (most_capacity p.version) m.width) [
+    | inl wide ↦ (status.Wide, fault_text (line.Wide m.width), TooWide (record { circuit = m; one = one; wide = wide; whole = refl }))
     | inr narrow ↦ elim (never_or_first m.letters) [
-      | inl fits ↦ (status.Ok, text.0, record { circuit = m; one = one; narrow = narrow; fits = fits; text = text.1 })
+      | inl fits ↦ (status.Ok, text.0, Values (record { circuit = m; one = one; narrow = narrow; fits = fits; text = text.1 }))
       | inr (at, first) ↦ (
         status.LetterOverflow,
         fault_text (line.LetterOverflow at),
-        record { circuit = m; one = one; narrow = narrow; at = at; first = first; whole = refl },
+        Overflows (record { circuit = m; one = one; narrow = narrow; at = at; first = first; whole = refl }),
       )
     ]
   ]
@@ -251,7 +250,7 @@ module _ (p : Programs) (ready : IsReady p) (ranges : IsInRange p) where
         | inl done ↦ amps_of (view p ready ranges run.ranks run.run) (view_one p ready ranges run.ranks run.run done) (one_text p ready ranges run.ranks run.run done)
         | inr (k, low) ↦
             let left = left_from p tables 0 (length p.ranks) in
-            (status.Waits, fault_text (line.Waits left), record { left = left; early = early p ready ranges run.ranks run.run k low; whole = refl })
+            (status.Waits, fault_text (line.Waits left), ValuesNone (record { left = left; early = early p ready ranges run.ranks run.run k low; whole = refl }))
       ]
 
 -- ---- the rendezvous run
@@ -279,6 +278,6 @@ module _ (p : Programs) where
   some_check_answer =
       let run = meetings.rendezvous_law p in
       elim (least (has_event tight (tight_end run.schedule)) (length tight.ranks)) [
-        | inl ended ↦ (status.Ok, check_text p true, record { meets = true; so = (λ t. meets run.schedule run.run ended, λ e. refl); whole = refl })
-        | inr (k, low) ↦ (status.Ok, check_text p false, record { meets = false; so = (λ t. absurd (let z : false ≡ true = t in cc), λ e. absurd (waits run.schedule run.run k low e)); whole = refl })
+        | inl ended ↦ (status.Ok, check_text p true, Checks (record { meets = true; so = (λ t. meets run.schedule run.run ended, λ e. refl); whole = refl }))
+        | inr (k, low) ↦ (status.Ok, check_text p false, Checks (record { meets = false; so = (λ t. absurd (let z : false ≡ true = t in cc), λ e. absurd (waits run.schedule run.run k low e)); whole = refl }))
       ]

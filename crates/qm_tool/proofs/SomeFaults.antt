@@ -21,9 +21,9 @@ use Rattle.qm_check.specs.Faults.{IsFirst, IsBelow, IsEarlierStep, IsEarlierTape
 use Rattle.qm_check.specs.Messages.{lane_sends, lane_receives, is_back, match_fault, lane_fault, IsLower}
 use Rattle.qm_check.specs.Slots.{full_after, fault_if_any, step_fault}
 use Rattle.qm_check.specs.Tapes.{length_fault, tape_fault}
-use Rattle.qm_check.specs.Checks.{Width, fault_at, IsBefore, IsReady, IsFirstFault}
+use Rattle.qm_check.specs.Checks.{AllRanks, fault_at, IsBefore, IsReady, IsFirstFault}
 use Rattle.qm_check.proofs.Firsts.{NoneBefore, first_in_row}
-use Rattle.qm_check.proofs.Places.{first_of_all}
+use Rattle.qm_check.proofs.Sites.{first_of_all}
 use Rattle.qm_check.proofs.PostLanes.{post_lane, posts_in-lane}
 use Rattle.qm_proto.proofs.Meetings.{same_or_below}
 
@@ -300,4 +300,4 @@ module _ (p : Programs) where
       let s = some_step p in
       let l = some_lane in
       let t = some_tape p in
-      ready_or_fault (option_or (option_or (option_or (fault_at p Width) s.0) l.0) t.0) (first_of_all p (fault_at p Width) s.0 l.0 t.0 refl s.1 l.1 t.1)
+      ready_or_fault (option_or (option_or (option_or (fault_at p AllRanks) s.0) l.0) t.0) (first_of_all p (fault_at p AllRanks) s.0 l.0 t.0 refl s.1 l.1 t.1)

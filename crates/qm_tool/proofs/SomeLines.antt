@@ -1,5 +1,5 @@
 -- The state text of a run that ends has an amplitude line
-use Rattle.std.proofs.Common.{◌≡◌, ◌≢◌, ℕ, zero, suc, ◌<◌, ◌≤◌, ◌⊎◌, inl, inr, Bool, true, List, [], ◌∷◌, ◌++◌, Option, Some, None, length, sym, ap, subst, ◌∙◌, refl, arith, ⊎_elim}
+use Rattle.std.proofs.Common.{◌≡◌, ◌≢◌, ℕ, zero, suc, ◌<◌, ◌≤◌, inl, inr, Bool, true, List, [], ◌∷◌, ◌++◌, Option, Some, None, length, sym, ap, subst, ◌∙◌, refl, arith, ⊎_elim}
 use Rattle.std.proofs.lemmas.Bool.{cases_eq}
 use Rattle.qm_zomega.specs.Numbers.{zero_number, root2_times}
 use Rattle.qm_zomega.proofs.Laws.Powers.{root2_times-zero, zero_where_root2_times-zero}
@@ -13,17 +13,16 @@ use Rattle.qm_check.specs.Checks.{IsReady}
 use Rattle.qm_proto.specs.Model.Ideal.{ideal_replay}
 use Rattle.qm_proto.specs.Model.Schedules.{replay, IsComplete, protocol_total}
 use Rattle.qm_proto.proofs.Firsts.{one_run_unique}
-use Rattle.qm_runs.specs.Headline.{ComesToOne}
-use Rattle.qm_runs.proofs.Following.Leftover.{leftover_blank}
-use Rattle.qm_runs.proofs.Headline.{headline_law}
+use Rattle.qm_simulation.specs.Headline.{ComesToOne}
+use Rattle.qm_simulation.proofs.Laws.{leftover_blank, headline_law}
 use Rattle.qm_print.specs.declared.Live.{Live}
 use Rattle.qm_print.specs.Slots.{slot_if, rank_slots, slots_below, full_slots}
 use Rattle.qm_print.specs.StateText.{line_count}
 use Rattle.qm_print.proofs.LineLemmas.{IsAmong, some_line}
 use Rattle.qm_tool.specs.declared.command.Play.{Play}
-use Rattle.qm_tool.specs.Commands.{order_of, block_of}
-use Rattle.qm_tool.specs.Dues.{IsDue, Completes, StopsShort}
-use Rattle.qm_tool.specs.Due.{IsTextAfter}
+use Rattle.qm_tool.specs.Commands.{block_of}
+use Rattle.qm_tool.specs.Dues.{IsScheduleOf, IsTurnAfter, IsDue, Completes, StopsShort}
+use Rattle.qm_tool.specs.Due.{IsTextAfter, RunsTo}
 use Rattle.qm_tool.specs.Lines.{HasAmplitudeLine, SomeLine}
 use Rattle.qm_tool.proofs.OneCircuits.{one_text}
 
@@ -77,21 +76,23 @@ module _ (p : Programs) (ready : IsReady p) (ranges : IsInRange p) (schedule ran
       some_line u comes.one_nonzero.0 (λ e. comes.one_nonzero.1 (zero_amplitude_so u k c form comes.one_nonzero.0 e))
       (full_slots p (ideal_replay p ranks).tables.slots) (λ w out x h. zero_number_so u k c form x (blank_in_one w out x h))
 
-complete_line : (play : Play) (p : Programs) (bytes : List ℕ) (complete : Bool) → IsReady p → IsInRange p
-    → IsDue p (order_of play) (IsTextAfter p) (block_of play p) bytes complete → complete ≡ true → HasAmplitudeLine play p bytes
-complete_line play p bytes _ ready ranges (Completes schedule order due) is =
-    let law = headline_law p ready ranges schedule due.complete in
-    let one = one_text p schedule law.0 due.state law.1 due.so in
-    let same : law.0 ≡ one.run = one_run_unique p law.0 one.run law.1.run one.one in
-    let comes : ComesToOne p schedule one.run = subst (ComesToOne p schedule) same law.1 in
-    record {
-      state = due.state;
-      one = one;
-      some = one_line p ready ranges schedule one.run due.complete comes one.state.numerators one.state.exponent one.state.form;
-      blocked = record { schedule = schedule; order = order; whole = due.whole };
-    }
-complete_line play p bytes _ ready ranges (StopsShort schedule order due) is = cc
+complete_line : (play : Play) (p : Programs) (bytes : List ℕ) (complete : Bool) → IsReady p → RunsTo complete play IsTextAfter p bytes → complete ≡ true → HasAmplitudeLine play p bytes
+complete_line play p bytes complete ready runs is = by_due complete runs.due is
+  where
+    by_due : (complete : Bool) → IsDue p (IsScheduleOf p play.order) (IsTurnAfter p play.order) (IsTextAfter p) (λ c schedule. block_of play.listing c p schedule) bytes complete
+        → complete ≡ true → HasAmplitudeLine play p bytes
+    by_due _ (StopsShort schedule order due) is = cc
+    by_due _ (Completes schedule order due) is =
+        let law = headline_law p ready runs.in_range schedule due.complete in
+        let one = one_text p schedule law.0 due.end law.1 due.so in
+        let same : law.0 ≡ one.run = one_run_unique p law.0 one.run law.1.run one.one in
+        let comes : ComesToOne p schedule one.run = subst (ComesToOne p schedule) same law.1 in
+        record {
+          state = due.end;
+          one = one;
+          some = one_line p ready runs.in_range schedule one.run due.complete comes one.state.numerators one.state.exponent one.state.form;
+          blocked = record { schedule = schedule; order = order; whole = due.whole };
+        }
 
 pub some_line_due : SomeLine
-some_line_due play text bytes e =
-    record { programs = e.programs; reads = e.reads; so = complete_line play e.programs bytes true e.reads.ready e.so.in_range e.so.due refl }
+some_line_due play p bytes ready e = complete_line play p bytes true ready e refl

@@ -7,36 +7,35 @@ use Rattle.qm_proto.specs.declared.Cause.TheVariants as cause
 use Rattle.qm_proto.specs.Model.Runs.{has_event, IsRefused}
 use Rattle.qm_proto.specs.Model.Schedules.{protocol_total, replay, IsLegal, AllEnded, NoneEnabled}
 use Rattle.qm_proto.specs.Model.Orders.{IsEndAround}
-use Rattle.qm_runs.proofs.Confluence.Confluent.{IsLeast, least}
-use Rattle.qm_bits.specs.Numbers.{number_of_bits}
+use Rattle.qm_confluence.proofs.Confluence.Confluent.{IsLeast, least}
+use Rattle.qm_instr.specs.Bits.{number_of_bits}
 use Rattle.qm_print.specs.FaultText.{stopped_line}
 use Rattle.qm_print.specs.Slots.{full_slots}
-use Rattle.qm_gen.specs.Laws.{IsReadyText}
 use Rattle.qm_print.specs.JobText.{job_text}
 use Rattle.qm_print.specs.StateText.{line_count, state_lines}
 use Rattle.qm_ranks.proofs.Existing.{some_order}
 use Rattle.qm_ranks.proofs.Orders.{around_known, legal_order}
 use Rattle.qm_tool.specs.declared.command.Command.TheVariants as command
 use Rattle.qm_tool.specs.declared.command.Play.{Play}
-use Rattle.qm_tool.specs.declared.status.Status.{Status}
 use Rattle.qm_tool.specs.declared.status.Status.TheVariants as status
-use Rattle.qm_tool.specs.declared.command.Making.TheVariants as making
 use Rattle.qm_tool.specs.declared.command.Recipe.{Recipe}
-use Rattle.qm_tool.specs.Commands.{order_of, block_of, kind_word, recipe_text}
-use Rattle.qm_tool.specs.Dues.{Order, Lowest, Refused, Stuck, order_words, IsScheduleOf, IsTurnAfter, IsDue, Completes, StopsShort}
-use Rattle.qm_tool.specs.Due.{IsTextAfter, AnswersReady, IsJobText, WorksTo, DueOfMaking}
+use Rattle.qm_tool.specs.Commands.{block_of, kind_word, plain}
+use Rattle.qm_tool.specs.declared.command.Order.{Order}
+use Rattle.qm_tool.specs.Dues.{Refused, Stuck, order_words, IsScheduleOf, IsTurnAfter, IsDue, Completes, StopsShort}
+use Rattle.qm_tool.specs.Due.{IsTextAfter, IsJobText, RunsTo, WorksTo, Ends, Stops, Works, Breaks}
+use Rattle.qm_tool.proofs.SomeCircuits.{HasAnswer}
 
 -- a run in an order of turns, with a state text for each schedule
-module _ (p : Programs) (o : Order) (IsState : List ℕ → List ℕ → Type 0) (block : List ℕ → List ℕ)
-    (text_after : (schedule : List ℕ) → (text : List ℕ) × IsState schedule text) where
+module _ (p : Programs) (o : Order) (IsEnd : List ℕ → List ℕ → Type 0) (block : Bool → List ℕ → List ℕ)
+    (text_after : (schedule : List ℕ) → (text : List ℕ) × IsEnd schedule text) where
   abbrev pub SomeDue : Type 0
-  SomeDue = (complete : Bool) × (bytes : List ℕ) × IsDue p o IsState block bytes complete
+  SomeDue = (complete : Bool) × (bytes : List ℕ) × IsDue p (IsScheduleOf p o) (IsTurnAfter p o) IsEnd block bytes complete
 
   module _ (schedule : List ℕ) (order : IsScheduleOf p o schedule) (legal : IsLegal p schedule) where
     stopped : (rank : ℕ) (c : Cause) → IsTurnAfter p o schedule rank → IsRefused p (replay p schedule) rank c → SomeDue
     stopped rank c first refused = (
       false,
-      stopped_line rank (length schedule) c ++ block schedule,
+      stopped_line rank (length schedule) c ++ block false schedule,
       StopsShort schedule order (record {
         legal = legal;
         rank = rank;
@@ -49,7 +48,7 @@ module _ (p : Programs) (o : Order) (IsState : List ℕ → List ℕ → Type 0)
     stuck : NoneEnabled p (replay p schedule).tables → (rank : ℕ) → IsLeast (has_event p (replay p schedule).tables) (length p.ranks) rank → SomeDue
     stuck none rank low = (
       false,
-      stopped_line rank (length schedule) cause.Stuck ++ block schedule,
+      stopped_line rank (length schedule) cause.Stuck ++ block false schedule,
       StopsShort schedule order (record {
         legal = legal;
         rank = rank;
@@ -63,8 +62,8 @@ module _ (p : Programs) (o : Order) (IsState : List ℕ → List ℕ → Type 0)
     complete ended =
         let text = text_after schedule in (
           true,
-          text.0 ++ block schedule,
-          Completes schedule order (record { complete = record { legal = legal; ended = ended }; state = text.0; so = text.1; whole = refl }),
+          text.0 ++ block true schedule,
+          Completes schedule order (record { complete = record { legal = legal; ended = ended }; end = text.0; so = text.1; whole = refl }),
         )
 
     at_end : IsEndAround p (replay p schedule) (order_words o (length schedule) % length p.ranks) → SomeDue
@@ -83,7 +82,14 @@ module _ (p : Programs) (o : Order) (IsState : List ℕ → List ℕ → Type 0)
       at_end run.0 run.1 law.legal law.ended
 
 -- ---- a command that runs programs
-module _ (p : Programs) (in_range : IsInRange p) (play : Play) where
+module _ (p : Programs) (in_range : IsInRange p) where
+  -- the run comes to an end, with any texts of what schedules leave
+  some_end : (play : Play) (IsEnd : Programs → List ℕ → List ℕ → Type 0) → ((schedule : List ℕ) → (text : List ℕ) × IsEnd p schedule text)
+      → (complete : Bool) × (bytes : List ℕ) × RunsTo complete play IsEnd p bytes
+  some_end play IsEnd text_after =
+      let run = some_due p play.order (IsEnd p) (λ c schedule. block_of play.listing c p schedule) text_after in
+      (run.0, run.1, record { in_range = in_range; due = run.2 })
+
   -- the state text of what a schedule leaves
   text_after : (schedule : List ℕ) → (text : List ℕ) × IsTextAfter p schedule text
   text_after schedule =
@@ -93,38 +99,32 @@ module _ (p : Programs) (in_range : IsInRange p) (play : Play) where
         record { numerators = form.0; exponent = form.1; form = form.2; lines = refl },
       )
 
-  by_end : SomeDue p (order_of play) (IsTextAfter p) (block_of play p) text_after → (s : Status) × (bytes : List ℕ) × AnswersReady s (command.Run play) p bytes
-  by_end (true, bytes, due) = (status.Ok, bytes, record { in_range = in_range; due = due })
-  by_end (false, bytes, due) = (status.Stopped, bytes, record { in_range = in_range; due = due })
+  run_by_end : (play : Play) → (complete : Bool) × (bytes : List ℕ) × RunsTo complete play IsTextAfter p bytes → HasAnswer p (command.Run play)
+  run_by_end play (true, bytes, due) = (status.Ok, bytes, Ends play due)
+  run_by_end play (false, bytes, due) = (status.Stopped, bytes, Stops play due)
 
-  pub some_run_answer : (s : Status) × (bytes : List ℕ) × AnswersReady s (command.Run play) p bytes
-  some_run_answer = by_end (some_due p (order_of play) (IsTextAfter p) (block_of play p) text_after)
+  pub some_run_answer : (play : Play) → HasAnswer p (command.Run play)
+  some_run_answer play = run_by_end play (some_end play IsTextAfter text_after)
 
--- ---- a command on a made program
-module _ (r : Recipe) (made : IsReadyText (recipe_text r)) where
-  -- the job text of what a schedule leaves
-  summary_after : (schedule : List ℕ) → (text : List ℕ) × IsJobText r made.programs schedule text
-  summary_after schedule =
-      let s = replay made.programs schedule in
+  -- its job text
+  summary_after : (r : Recipe) (schedule : List ℕ) → (text : List ℕ) × IsJobText r p schedule text
+  summary_after r schedule =
+      let s = replay p schedule in
       let form = reduced_form s.circuit in (
         job_text (kind_word r.kind) (record {
           size = r.size;
           number = r.number;
           events = length schedule;
-          protocol = protocol_total made.programs;
+          protocol = protocol_total p;
           scale = form.1;
-          lines = line_count form.0 (full_slots made.programs s.tables.slots);
+          lines = line_count form.0 (full_slots p s.tables.slots);
         }),
         record { numerators = form.0; exponent = form.1; form = form.2; whole = refl },
       )
 
-  works_to : (complete : Bool) (bytes : List ℕ) → IsDue made.programs Lowest (IsJobText r made.programs) (λ schedule. []) bytes complete → WorksTo complete r bytes
-  works_to complete bytes due =
-      record { programs = made.programs; reads = record { reads = made.reads; ready = made.ready }; so = record { in_range = made.in_range; due = due } }
+  job_by_end : (r : Recipe) → (complete : Bool) × (bytes : List ℕ) × WorksTo complete r p bytes → HasAnswer p (command.Job r)
+  job_by_end r (true, bytes, due) = (status.Ok, bytes, Works r due)
+  job_by_end r (false, bytes, due) = (status.Stopped, bytes, Breaks r due)
 
-  job_by_end : SomeDue made.programs Lowest (IsJobText r made.programs) (λ schedule. []) summary_after → (s : Status) × (bytes : List ℕ) × DueOfMaking (making.Job r) s bytes
-  job_by_end (true, bytes, due) = (status.Ok, bytes, works_to true bytes due)
-  job_by_end (false, bytes, due) = (status.Stopped, bytes, works_to false bytes due)
-
-  pub some_job_answer : (s : Status) × (bytes : List ℕ) × DueOfMaking (making.Job r) s bytes
-  some_job_answer = job_by_end (some_due made.programs Lowest (IsJobText r made.programs) (λ schedule. []) summary_after)
+  pub some_job_answer : (r : Recipe) → HasAnswer p (command.Job r)
+  some_job_answer r = job_by_end r (some_end plain (IsJobText r) (summary_after r))

@@ -1,96 +1,46 @@
 -- Words that were read by hand, at both sides of each bound
 use Rattle.std.proofs.Common.{◌≡◌, ℕ, List, [], ◌∷◌, map, Option, Some, None, codes, refl}
 use Rattle.qm_gen.specs.declared.GenKind.TheVariants.{Ring, Ghz, Parity}
+use Rattle.qm_tool.specs.declared.command.Command.{Command}
 use Rattle.qm_tool.specs.declared.command.Command.TheVariants as command
-use Rattle.qm_tool.specs.declared.command.Making.{Making}
-use Rattle.qm_tool.specs.declared.command.Making.TheVariants as making
-use Rattle.qm_tool.specs.declared.command.Play.TheVariants as playing
-use Rattle.qm_tool.specs.Commands.{command_of, kind_of, making_of, number_of, recipe, size_of, IsNoCommand}
+use Rattle.qm_tool.specs.declared.command.Order.TheVariants.{Lowest, Seeded}
+use Rattle.qm_tool.specs.declared.command.Listing.TheVariants.{Nothing, Trace}
+use Rattle.qm_tool.specs.Commands.{command_of, kind_of, recipe, run, seed_of, size_of}
 
 -- ---- numbers
-largest : number_of (codes "18446744073709551615") ≡ Some 18446744073709551615
-largest = refl
+some_numbers : map seed_of (codes "0" ∷ codes "007" ∷ codes "18446744073709551615" ∷ codes "00000000000000000010" ∷ [])
+    ≡ Some 0 ∷ Some 7 ∷ Some 18446744073709551615 ∷ Some 10 ∷ []
+some_numbers = refl
 
-too_large : number_of (codes "18446744073709551616") ≡ None
-too_large = refl
+-- too large, or too many digits, or none
+no_numbers : map seed_of (codes "18446744073709551616" ∷ codes "99999999999999999999" ∷ codes "000000000000000000010" ∷ [] ∷ [])
+    ≡ None ∷ None ∷ None ∷ None ∷ []
+no_numbers = refl
 
-most_in_twenty_digits : number_of (codes "99999999999999999999") ≡ None
-most_in_twenty_digits = refl
-
-smallest : number_of (codes "0") ≡ Some 0
-smallest = refl
-
-leading_zeros : number_of (codes "007") ≡ Some 7
-leading_zeros = refl
-
-twenty_digits : number_of (codes "00000000000000000010") ≡ Some 10
-twenty_digits = refl
-
-more_digits : number_of (codes "000000000000000000010") ≡ None
-more_digits = refl
-
-no_digits : number_of [] ≡ None
+-- other bytes, those before and after the digits among them
+no_digits : map seed_of (codes "+1" ∷ codes "1e3" ∷ codes "1 " ∷ codes "1/" ∷ codes "1:" ∷ []) ≡ None ∷ None ∷ None ∷ None ∷ None ∷ []
 no_digits = refl
 
-with_sign : number_of (codes "+1") ≡ None
-with_sign = refl
-
-with_letter : number_of (codes "1e3") ≡ None
-with_letter = refl
-
-with_blank : number_of (codes "1 ") ≡ None
-with_blank = refl
-
--- the bytes before and after the digits
-before_digits : number_of (codes "1/") ≡ None
-before_digits = refl
-
-after_digits : number_of (codes "1:") ≡ None
-after_digits = refl
-
 -- ---- commands on a program of the source
-the_one_word : command_of (codes "plain" ∷ []) ≡ Some (command.Run playing.Plain)
-the_one_word = refl
+one_word : map (λ w. command_of (w ∷ [])) (codes "plain" ∷ codes "mono" ∷ codes "check" ∷ codes "Plain" ∷ codes "amps" ∷ codes "run" ∷ [] ∷ [])
+    ≡ Some (run Lowest Nothing) ∷ Some command.Mono ∷ Some command.Check ∷ None ∷ None ∷ None ∷ None ∷ []
+one_word = refl
 
-the_two_words : command_of (codes "sched" ∷ codes "12" ∷ []) ≡ Some (command.Run (playing.Sched 12))
-the_two_words = refl
+abbrev two : List ℕ → List ℕ → Option Command
+two w k = command_of (w ∷ k ∷ [])
 
-without_seed : command_of (codes "sched" ∷ []) ≡ None
-without_seed = refl
+two_words : two (codes "sched") (codes "12") ∷ two (codes "trace") (codes "12") ∷ two (codes "mono") (codes "amps") ∷ []
+    ≡ Some (run (Seeded 12) Nothing) ∷ Some (run (Seeded 12) Trace) ∷ Some command.MonoAmps ∷ []
+two_words = refl
 
-plain_with_seed : command_of (codes "plain" ∷ codes "12" ∷ []) ≡ None
-plain_with_seed = refl
-
-capital : command_of (codes "Plain" ∷ []) ≡ None
-capital = refl
-
-three_words : command_of (codes "sched" ∷ codes "12" ∷ codes "12" ∷ []) ≡ None
-three_words = refl
-
-traced : command_of (codes "trace" ∷ codes "12" ∷ []) ≡ Some (command.Run (playing.Trace 12))
-traced = refl
-
-the_circuit : command_of (codes "mono" ∷ []) ≡ Some command.Mono
-the_circuit = refl
-
-its_amplitudes : command_of (codes "mono" ∷ codes "amps" ∷ []) ≡ Some command.MonoAmps
-its_amplitudes = refl
-
-the_check : command_of (codes "check" ∷ []) ≡ Some command.Check
-the_check = refl
-
-check_of_amplitudes : command_of (codes "check" ∷ codes "amps" ∷ []) ≡ None
-check_of_amplitudes = refl
-
-amplitudes_alone : command_of (codes "amps" ∷ []) ≡ None
-amplitudes_alone = refl
+no_two_words : two (codes "plain") (codes "12") ∷ two (codes "check") (codes "amps") ∷ two (codes "run") (codes "turns") ∷ []
+    ≡ None ∷ None ∷ None ∷ []
+no_two_words = refl
 
 -- ---- kinds
-the_kinds : map kind_of (codes "ring" ∷ codes "ghz" ∷ codes "parity" ∷ []) ≡ Some Ring ∷ Some Ghz ∷ Some Parity ∷ []
-the_kinds = refl
-
-no_kinds : map kind_of (codes "star" ∷ codes "GHZ" ∷ codes "Ring" ∷ codes "rin" ∷ codes "rings" ∷ [] ∷ []) ≡ None ∷ None ∷ None ∷ None ∷ None ∷ None ∷ []
-no_kinds = refl
+kinds : map kind_of (codes "ring" ∷ codes "ghz" ∷ codes "parity" ∷ codes "star" ∷ codes "GHZ" ∷ codes "Ring" ∷ codes "rin" ∷ codes "rings" ∷ [] ∷ [])
+    ≡ Some Ring ∷ Some Ghz ∷ Some Parity ∷ None ∷ None ∷ None ∷ None ∷ None ∷ None ∷ []
+kinds = refl
 
 -- ---- sizes: the ends of each kind's range, and one beyond
 ring_sizes : map (size_of Ring) (codes "0" ∷ codes "1" ∷ codes "10000" ∷ codes "10001" ∷ []) ≡ None ∷ Some 1 ∷ Some 10000 ∷ None ∷ []
@@ -110,75 +60,27 @@ no_sizes : map (size_of Ghz) ([] ∷ codes "3x" ∷ codes "x3" ∷ codes "-3" �
 no_sizes = refl
 
 -- ---- commands on a made program
-abbrev made : List ℕ → List ℕ → List ℕ → List ℕ → Option Making
-made name kind size number = making_of (name ∷ kind ∷ size ∷ number ∷ [])
+abbrev four : List ℕ → List ℕ → List ℕ → List ℕ → Option Command
+four name kind size number = command_of (name ∷ kind ∷ size ∷ number ∷ [])
 
-the_text : made (codes "gen") (codes "ring") (codes "010") (codes "7") ≡ Some (making.Gen (recipe Ring 10 7))
-the_text = refl
+four_words : four (codes "gen") (codes "ring") (codes "010") (codes "7") ∷ four (codes "job") (codes "parity") (codes "9000") (codes "5")
+    ∷ four (codes "gen") (codes "ghz") (codes "000000003") (codes "00000000000000000010")
+    ∷ four (codes "job") (codes "ghz") (codes "2") (codes "18446744073709551615") ∷ []
+    ≡ Some (command.Gen (recipe Ring 10 7)) ∷ Some (command.Job (recipe Parity 9000 5)) ∷ Some (command.Gen (recipe Ghz 3 10))
+    ∷ Some (command.Job (recipe Ghz 2 18446744073709551615)) ∷ []
+four_words = refl
 
-the_job : made (codes "job") (codes "parity") (codes "9000") (codes "5") ≡ Some (making.Job (recipe Parity 9000 5))
-the_job = refl
+-- a number that is none, a size that is none, a kind that is none
+no_recipes : four (codes "gen") (codes "ring") (codes "1") (codes "18446744073709551616") ∷ four (codes "gen") (codes "ring") (codes "1") []
+    ∷ four (codes "gen") (codes "ring") (codes "0") (codes "1") ∷ four (codes "job") (codes "ghz") (codes "1") (codes "1")
+    ∷ four (codes "gen") (codes "star") (codes "3") (codes "1") ∷ four (codes "gen") (codes "3") (codes "ring") (codes "1") ∷ []
+    ≡ None ∷ None ∷ None ∷ None ∷ None ∷ None ∷ []
+no_recipes = refl
 
-many_zeros : made (codes "gen") (codes "ghz") (codes "000000003") (codes "00000000000000000010") ≡ Some (making.Gen (recipe Ghz 3 10))
-many_zeros = refl
-
-largest_number : made (codes "job") (codes "ghz") (codes "2") (codes "18446744073709551615") ≡ Some (making.Job (recipe Ghz 2 18446744073709551615))
-largest_number = refl
-
-large_number : made (codes "gen") (codes "ring") (codes "1") (codes "18446744073709551616") ≡ None
-large_number = refl
-
-long_number : made (codes "job") (codes "ring") (codes "1") (codes "000000000000000000001") ≡ None
-long_number = refl
-
-empty_number : made (codes "gen") (codes "ring") (codes "1") [] ≡ None
-empty_number = refl
-
-letter_in_number : made (codes "gen") (codes "ring") (codes "1") (codes "0x1") ≡ None
-letter_in_number = refl
-
-no_ring : made (codes "gen") (codes "ring") (codes "0") (codes "1") ≡ None
-no_ring = refl
-
-long_size : made (codes "job") (codes "ring") (codes "0000000010") (codes "1") ≡ None
-long_size = refl
-
-one_rank : made (codes "job") (codes "ghz") (codes "1") (codes "1") ≡ None
-one_rank = refl
-
-no_kind : made (codes "gen") (codes "star") (codes "3") (codes "1") ≡ None
-no_kind = refl
-
-capital_kind : made (codes "gen") (codes "Ring") (codes "3") (codes "1") ≡ None
-capital_kind = refl
-
-capital_name : made (codes "JOB") (codes "ring") (codes "3") (codes "1") ≡ None
-capital_name = refl
-
-another_name : made (codes "plain") (codes "ring") (codes "3") (codes "1") ≡ None
-another_name = refl
-
-another_order : made (codes "gen") (codes "3") (codes "ring") (codes "1") ≡ None
-another_order = refl
-
--- ---- no command
-no_words : IsNoCommand []
-no_words = record { reads_none = refl; makes_none = refl }
-
-empty_word : IsNoCommand ([] ∷ [])
-empty_word = record { reads_none = refl; makes_none = refl }
-
-name_alone : IsNoCommand (codes "gen" ∷ [])
-name_alone = record { reads_none = refl; makes_none = refl }
-
-without_size : IsNoCommand (codes "job" ∷ codes "ghz" ∷ [])
-without_size = record { reads_none = refl; makes_none = refl }
-
-without_number : IsNoCommand (codes "gen" ∷ codes "ghz" ∷ codes "3" ∷ [])
-without_number = record { reads_none = refl; makes_none = refl }
-
-five_words : IsNoCommand (codes "gen" ∷ codes "ghz" ∷ codes "3" ∷ codes "1" ∷ codes "1" ∷ [])
-five_words = record { reads_none = refl; makes_none = refl }
-
-run_alone : IsNoCommand (codes "run" ∷ [])
-run_alone = record { reads_none = refl; makes_none = refl }
+-- another name, and too few words or too many
+no_commands : four (codes "JOB") (codes "ring") (codes "3") (codes "1") ∷ four (codes "plain") (codes "ring") (codes "3") (codes "1")
+    ∷ command_of [] ∷ command_of (codes "gen" ∷ []) ∷ command_of (codes "sched" ∷ []) ∷ command_of (codes "job" ∷ codes "ghz" ∷ [])
+    ∷ command_of (codes "sched" ∷ codes "12" ∷ codes "12" ∷ []) ∷ command_of (codes "gen" ∷ codes "ghz" ∷ codes "3" ∷ [])
+    ∷ command_of (codes "gen" ∷ codes "ghz" ∷ codes "3" ∷ codes "1" ∷ codes "1" ∷ []) ∷ []
+    ≡ None ∷ None ∷ None ∷ None ∷ None ∷ None ∷ None ∷ None ∷ None ∷ []
+no_commands = refl

@@ -1,15 +1,15 @@
--- The status and the bytes that are due for words and a text, while no end fails
-use Rattle.std.specs.Prelude.{◌≡◌, ℕ, ◌<◌, ◌≤◌, ◌⊎◌, ◌↔◌, Bool, true, false, IsTrue, List, [], ◌++◌, Option, Some, None, Ok, Err, length}
+-- The status and the bytes that are due of a command, by the text of its program, while no end fails
+use Rattle.std.specs.Prelude.{◌≡◌, ℕ, ◌<◌, ◌≤◌, ◌⊎◌, ◌↔◌, Bool, true, false, IsTrue, List, ◌++◌, Option, Some, None, Ok, Err, length}
 use Rattle.qm_denot.specs.Circuits.{Amplitudes}
 use Rattle.qm_denot.specs.Stores.{IsReducedForm}
 use Rattle.qm_instr.specs.Programs.{Programs, IsInRange}
-use Rattle.qm_limits.specs.declared.TheConstants.{MOST_BYTES, MOST_CAPACITY_1}
+use Rattle.qm_limits.specs.declared.TheConstants.{MOST_BYTES}
 use Rattle.qm_check.specs.declared.Fault.{Fault}
-use Rattle.qm_check.specs.Checks.{IsReady, IsFirstFault}
+use Rattle.qm_check.specs.Checks.{IsReady, IsFirstFault, most_capacity}
 use Rattle.qm_proto.specs.Model.Schedules.{replay, protocol_total, RendezvousEnds}
 use Rattle.qm_proto.specs.Model.Ideal.{ideal_replay, IsOneRun, AllDone}
-use Rattle.qm_runs.specs.Endings.Completing.{NeverRefused}
-use Rattle.qm_runs.specs.Stuck.NeverStuck.{NeverStuck}
+use Rattle.qm_confluence.specs.Endings.Completing.{NeverRefused}
+use Rattle.qm_confluence.specs.Stuck.NeverStuck.{NeverStuck}
 use Rattle.qm_ideal.specs.OneCircuits.{OneView, IsOneCircuit, EndsEarly}
 use Rattle.qm_eval.specs.Overflows.{IsFirstOverflow, NeverOverflows}
 use Rattle.qm_expand.specs.declared.ReadError.{ReadError}
@@ -17,16 +17,14 @@ use Rattle.qm_expand.specs.declared.ReadError.TheVariants as error
 use Rattle.qm_expand.specs.Reading.{Reads}
 use Rattle.qm_tool.specs.declared.command.Command.{Command}
 use Rattle.qm_tool.specs.declared.command.Command.TheVariants as command
-use Rattle.qm_tool.specs.declared.command.Making.{Making}
-use Rattle.qm_tool.specs.declared.command.Making.TheVariants as making
 use Rattle.qm_tool.specs.declared.command.Play.{Play}
 use Rattle.qm_tool.specs.declared.command.Recipe.{Recipe}
 use Rattle.qm_print.specs.declared.FaultLine.{FaultLine}
 use Rattle.qm_print.specs.declared.FaultLine.TheVariants as line
 use Rattle.qm_tool.specs.declared.status.Status.{Status}
 use Rattle.qm_tool.specs.declared.status.Status.TheVariants as status
-use Rattle.qm_tool.specs.Commands.{command_of, making_of, order_of, block_of, kind_word, recipe_text, IsNoCommand}
-use Rattle.qm_tool.specs.Dues.{IsScheduleOf, IsDue, Lowest}
+use Rattle.qm_tool.specs.Commands.{block_of, command_of, kind_word, made_of, plain, text_or}
+use Rattle.qm_tool.specs.Dues.{IsScheduleOf, IsTurnAfter, IsDue}
 use Rattle.qm_print.specs.CheckText.{check_text}
 use Rattle.qm_print.specs.CircuitText.{circuit_text}
 use Rattle.qm_print.specs.FaultText.{fault_text}
@@ -70,26 +68,18 @@ pub record RefusedWith (text bytes : List ℕ) : Type 0 where
   pub whole : bytes ≡ fault_text fault
 
 -- ---- runs
+-- the bytes are due of a run that is played in this way, with these texts of what schedules leave; whether all ranks end
+pub record RunsTo
+    (complete : Bool) (play : Play) (IsEnd : Programs → List ℕ → List ℕ → Type 0) (p : Programs) (bytes : List ℕ) : Type 0 where
+  pub in_range : IsInRange p
+  pub due : IsDue p (IsScheduleOf p play.order) (IsTurnAfter p play.order) (IsEnd p) (λ c schedule. block_of play.listing c p schedule) bytes complete
+
 -- the text is the state text of what the schedule leaves
 abbrev pub IsTextAfter : Programs → List ℕ → List ℕ → Type 0
 IsTextAfter p schedule text =
     let s = replay p schedule in
     IsStateText p s.circuit 0 (λ r. (s.tables.parts r).bits) s.tables.slots text
 
--- the bytes are due where the ranks take their turns in this way; whether all ranks end
-pub record RunsTo (complete : Bool) (play : Play) (p : Programs) (bytes : List ℕ) : Type 0 where
-  pub in_range : IsInRange p
-  pub due : IsDue p (order_of play) (IsTextAfter p) (block_of play p) bytes complete
-
--- the run is complete: the bytes are the state text of its end, and the block
-abbrev pub EndsWith : Play → List ℕ → List ℕ → Type 0
-EndsWith play text bytes = OnReady (RunsTo true play) text bytes
-
--- the run stops: the bytes are the line that says where and why, and the block
-abbrev pub StopsWith : Play → List ℕ → List ℕ → Type 0
-StopsWith play text bytes = OnReady (RunsTo false play) text bytes
-
--- ---- made programs
 -- the text is the job text of what the schedule leaves
 pub record IsJobText (r : Recipe) (p : Programs) (schedule text : List ℕ) : Type 0 where
   pub numerators : Amplitudes
@@ -104,14 +94,18 @@ pub record IsJobText (r : Recipe) (p : Programs) (schedule text : List ℕ) : Ty
     lines = line_count numerators (full_slots p (replay p schedule).tables.slots);
   })
 
--- the bytes are due where the lowest rank that may go on has each turn; whether all ranks end
-pub record JobRunsTo (complete : Bool) (r : Recipe) (p : Programs) (bytes : List ℕ) : Type 0 where
-  pub in_range : IsInRange p
-  pub due : IsDue p Lowest (IsJobText r p) (λ schedule. []) bytes complete
+-- the run is complete: the bytes are the state text of its end, and the block
+abbrev pub EndsWith : Play → Programs → List ℕ → Type 0
+EndsWith play p bytes = RunsTo true play IsTextAfter p bytes
 
--- the made text reads as programs for which the bytes are due
-abbrev pub WorksTo : Bool → Recipe → List ℕ → Type 0
-WorksTo complete r bytes = OnReady (JobRunsTo complete r) (recipe_text r) bytes
+-- the run stops: the bytes are the line that says where and why, and the block
+abbrev pub StopsWith : Play → Programs → List ℕ → Type 0
+StopsWith play p bytes = RunsTo false play IsTextAfter p bytes
+
+-- the bytes are due of the run of a made program, in which each turn is the lowest rank's that is neither ended nor blocked: the job text,
+-- or the line of where and why it stops
+abbrev pub WorksTo : Bool → Recipe → Programs → List ℕ → Type 0
+WorksTo complete r p bytes = RunsTo complete plain (IsJobText r) p bytes
 
 -- ---- the one circuit
 -- the text is the state text of the programs' one circuit, with one division by root2 for each protocol measurement
@@ -121,21 +115,17 @@ pub record IsOneText (p : Programs) (text : List ℕ) : Type 0 where
   pub done : AllDone p (ideal_replay p run).tables
   pub state : let s = ideal_replay p run in IsStateText p s.circuit (protocol_total p) (λ r. (s.tables.parts r).bits) s.tables.slots text
 
--- the bytes are a state text, and the block of a schedule in this order
+-- the bytes are a state text, and the block of a complete schedule in this order
 pub record IsWithBlock (play : Play) (p : Programs) (state bytes : List ℕ) : Type 0 where
   pub schedule : List ℕ
-  pub order : IsScheduleOf p (order_of play) schedule
-  pub whole : bytes ≡ state ++ block_of play p schedule
+  pub order : IsScheduleOf p play.order schedule
+  pub whole : bytes ≡ state ++ block_of play.listing true p schedule
 
 -- the state text is that of the one circuit
-pub record IsOneTextWith (play : Play) (p : Programs) (bytes : List ℕ) : Type 0 where
+pub record StatesOneCircuit (play : Play) (p : Programs) (bytes : List ℕ) : Type 0 where
   pub state : List ℕ
   pub one : IsOneText p state
   pub blocked : IsWithBlock play p state bytes
-
--- so they are for the text's programs
-abbrev pub StatesOneCircuit : Play → List ℕ → List ℕ → Type 0
-StatesOneCircuit play text bytes = OnReady (IsOneTextWith play) text bytes
 
 -- the bytes are the text of the one circuit
 pub record IsCircuitText (p : Programs) (bytes : List ℕ) : Type 0 where
@@ -149,26 +139,26 @@ pub record WaitsWith (p : Programs) (bytes : List ℕ) : Type 0 where
   pub early : EndsEarly p left
   pub whole : bytes ≡ fault_text (line.Waits left)
 
--- the one circuit needs no more than the capacity of version 1 and no letter leaves the range, and the bytes are its state text
+-- the one circuit needs no more than the capacity of the version and no letter leaves the range, and the bytes are its state text
 pub record IsAmplitudesText (p : Programs) (bytes : List ℕ) : Type 0 where
   pub circuit : OneView
   pub one : IsOneCircuit p circuit
-  pub narrow : circuit.width ≤ MOST_CAPACITY_1
+  pub narrow : circuit.width ≤ most_capacity p.version
   pub fits : NeverOverflows circuit.letters
   pub text : IsOneText p bytes
 
--- the one circuit needs more than the capacity of version 1, and the bytes are the line of its width
+-- the one circuit needs more than the capacity of the version, and the bytes are the line of its width
 pub record WideWith (p : Programs) (bytes : List ℕ) : Type 0 where
   pub circuit : OneView
   pub one : IsOneCircuit p circuit
-  pub wide : MOST_CAPACITY_1 < circuit.width
+  pub wide : most_capacity p.version < circuit.width
   pub whole : bytes ≡ fault_text (line.Wide circuit.width)
 
 -- a letter of the one circuit leaves the range, and the bytes are the line of the first that does
 pub record OverflowsWith (p : Programs) (bytes : List ℕ) : Type 0 where
   pub circuit : OneView
   pub one : IsOneCircuit p circuit
-  pub narrow : circuit.width ≤ MOST_CAPACITY_1
+  pub narrow : circuit.width ≤ most_capacity p.version
   pub at : ℕ
   pub first : IsFirstOverflow circuit.letters at
   pub whole : bytes ≡ fault_text (line.LetterOverflow at)
@@ -179,39 +169,34 @@ pub record IsCheckText (p : Programs) (bytes : List ℕ) : Type 0 where
   pub so : IsTrue meets ↔ RendezvousEnds p
   pub whole : bytes ≡ check_text p meets
 
--- ---- what is due
+-- ---- the table: each status that a command may have, and the bytes that are due with it
 -- for programs that have no fault
-abbrev pub AnswersReady : Status → Command → Programs → List ℕ → Type 0
-AnswersReady status.Ok (command.Run play) p bytes = RunsTo true play p bytes
-AnswersReady status.Ok command.Mono p bytes = IsCircuitText p bytes
-AnswersReady status.Ok command.MonoAmps p bytes = IsAmplitudesText p bytes
-AnswersReady status.Ok command.Check p bytes = IsCheckText p bytes
-AnswersReady status.Stopped (command.Run play) p bytes = RunsTo false play p bytes
-AnswersReady status.Waits command.Mono p bytes = WaitsWith p bytes
-AnswersReady status.Waits command.MonoAmps p bytes = WaitsWith p bytes
-AnswersReady status.Wide command.MonoAmps p bytes = WideWith p bytes
-AnswersReady status.LetterOverflow command.MonoAmps p bytes = OverflowsWith p bytes
-AnswersReady s c p bytes = ⊥
+pub data DueReady (p : Programs) (bytes : List ℕ) : Command → Status → Type 0 where
+  Ends : (play : Play) → EndsWith play p bytes → DueReady p bytes (command.Run play) status.Ok
+  Stops : (play : Play) → StopsWith play p bytes → DueReady p bytes (command.Run play) status.Stopped
+  Works : (r : Recipe) → WorksTo true r p bytes → DueReady p bytes (command.Job r) status.Ok
+  Breaks : (r : Recipe) → WorksTo false r p bytes → DueReady p bytes (command.Job r) status.Stopped
+  Draws : IsCircuitText p bytes → DueReady p bytes command.Mono status.Ok
+  DrawsNone : WaitsWith p bytes → DueReady p bytes command.Mono status.Waits
+  Values : IsAmplitudesText p bytes → DueReady p bytes command.MonoAmps status.Ok
+  ValuesNone : WaitsWith p bytes → DueReady p bytes command.MonoAmps status.Waits
+  TooWide : WideWith p bytes → DueReady p bytes command.MonoAmps status.Wide
+  Overflows : OverflowsWith p bytes → DueReady p bytes command.MonoAmps status.LetterOverflow
+  Checks : IsCheckText p bytes → DueReady p bytes command.Check status.Ok
 
--- for a text that came whole
-abbrev pub DueOf : Command → List ℕ → Status → List ℕ → Type 0
-DueOf c text status.Refused bytes = RefusedWith text bytes
-DueOf c text s bytes = OnReady (AnswersReady s c) text bytes
+-- for the text of a command's program: it is written, it is refused where the source gave it, or it reads as programs that have no fault
+pub data DueOf (text bytes : List ℕ) : Command → Status → Type 0 where
+  Made : (r : Recipe) → bytes ≡ text → DueOf text bytes (command.Gen r) status.Ok
+  Refused : (c : Command) → made_of c ≡ None → RefusedWith text bytes → DueOf text bytes c status.Refused
+  Ready : (c : Command) (s : Status) (p : Programs) → ReadsReady text p → DueReady p bytes c s → DueOf text bytes c s
 
--- for a command on a made program
-abbrev pub DueOfMaking : Making → Status → List ℕ → Type 0
-DueOfMaking (making.Gen r) status.Ok bytes = bytes ≡ recipe_text r
-DueOfMaking (making.Job r) status.Ok bytes = WorksTo true r bytes
-DueOfMaking (making.Job r) status.Stopped bytes = WorksTo false r bytes
-DueOfMaking m s bytes = ⊥
-
--- for words and all bytes that a source has
-pub data Due (words : List (List ℕ)) (text : List ℕ) : Status → List ℕ → Type 0 where
-  NoCommand : IsNoCommand words → Due words text status.Usage (fault_text line.Usage)
-  Makes : (m : Making) (s : Status) (bytes : List ℕ) → making_of words ≡ Some m → DueOfMaking m s bytes → Due words text s bytes
-  TooMuch : (c : Command) → command_of words ≡ Some c → MOST_BYTES < length text → Due words text status.TooLong (fault_text line.TooLong)
-  Whole : (c : Command) (s : Status) (bytes : List ℕ) → command_of words ≡ Some c → length text ≤ MOST_BYTES → DueOf c text s bytes
-      → Due words text s bytes
+-- for what words are, and all bytes that a source has
+pub data Due (given bytes : List ℕ) : Option Command → Status → Type 0 where
+  NoCommand : bytes ≡ fault_text line.Usage → Due given bytes None status.Usage
+  TooMuch : (c : Command) → made_of c ≡ None → MOST_BYTES < length given → bytes ≡ fault_text line.TooLong
+      → Due given bytes (Some c) status.TooLong
+  Whole : (c : Command) (s : Status) → (made_of c ≡ None → length given ≤ MOST_BYTES) → DueOf (text_or (made_of c) given) bytes c s
+      → Due given bytes (Some c) s
 
 -- ---- texts of which no run stops
 -- the text reads as programs of which no legal schedule comes to a refused event, and none to a stuck state or the rendezvous run ends
@@ -224,12 +209,12 @@ pub record IsSure (text : List ℕ) : Type 0 where
 -- ---- laws
 -- one status and one text alone is due
 abbrev pub OneAnswer : Type 0
-OneAnswer = (words : List (List ℕ)) (text : List ℕ) (s s' : Status) (bytes bytes' : List ℕ)
-    → Due words text s bytes → Due words text s' bytes' → (s ≡ s') × (bytes ≡ bytes')
+OneAnswer = (o : Option Command) (given : List ℕ) (s s' : Status) (bytes bytes' : List ℕ)
+    → Due given bytes o s → Due given bytes' o s' → (s ≡ s') × (bytes ≡ bytes')
 
 -- a status and a text are due for all words and all bytes that a source may have
 abbrev pub SomeAnswer : Type 0
-SomeAnswer = (words : List (List ℕ)) (text : List ℕ) → (s : Status) × (bytes : List ℕ) × Due words text s bytes
+SomeAnswer = (words : List (List ℕ)) (given : List ℕ) → (s : Status) × (bytes : List ℕ) × Due given bytes (command_of words) s
 
 -- programs have one text of their one circuit at most
 abbrev pub OneText : Type 0
@@ -238,9 +223,9 @@ OneText = (p : Programs) (text text' : List ℕ) → IsOneText p text → IsOneT
 -- bytes that are due for a run that ends are those that are due for the amplitudes of the one circuit, and the block; and the ideal run
 -- doesn't end early
 pub record AgreesWithRun (play : Play) (text bytes : List ℕ) : Type 0 where
-  pub amplitudes : (state : List ℕ) → DueOf command.MonoAmps text status.Ok state → OnReady (λ p. IsWithBlock play p state) text bytes
-  pub goes_on : (c : Command) (other : List ℕ) → ¬ DueOf c text status.Waits other
+  pub amplitudes : (state : List ℕ) → DueOf text state command.MonoAmps status.Ok → OnReady (λ p. IsWithBlock play p state) text bytes
+  pub goes_on : (c : Command) (other : List ℕ) → ¬ DueOf text other c status.Waits
 
 -- where a running command ends well, the bytes that are due agree with the one circuit
 abbrev pub OneCircuitLaw : Type 0
-OneCircuitLaw = (play : Play) (text bytes : List ℕ) → DueOf (command.Run play) text status.Ok bytes → AgreesWithRun play text bytes
+OneCircuitLaw = (play : Play) (text bytes : List ℕ) → DueOf text bytes (command.Run play) status.Ok → AgreesWithRun play text bytes

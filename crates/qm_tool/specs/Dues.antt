@@ -1,5 +1,5 @@
 -- The text that is due where a run follows a schedule: the state text where it is complete, and the line of where and why it stops; then a
--- block, which is empty where a command writes none
+-- block, which is empty where a command lists nothing
 use Rattle.std.specs.Prelude.{◌≡◌, ℕ, ◌%◌, ◌<◌, ◌⊎◌, Bool, true, false, List, ◌++◌, Some, length}
 use Rattle.qm_instr.specs.Programs.{Programs}
 use Rattle.qm_proto.specs.declared.Cause.{Cause}
@@ -12,15 +12,17 @@ use Rattle.qm_machine.specs.declared.Halt.{Halt}
 use Rattle.qm_machine.specs.Keeps.{MachineView, HasEnded, state_of}
 use Rattle.qm_seed.specs.Seeds.{seed_words}
 use Rattle.qm_print.specs.FaultText.{stopped_line}
+use Rattle.qm_tool.specs.declared.command.Order.{Order}
+use Rattle.qm_tool.specs.declared.command.Order.TheVariants.{Lowest, Seeded}
 
 -- ---- the due text of a schedule, whatever schedule it is
 
--- the schedule is complete; the text is a state text of what it leaves, and the block
-pub record CompleteWith (p : Programs) (IsState : List ℕ → Type 0) (schedule block text : List ℕ) : Type 0 where
+-- the schedule is complete; the text is a text of what it leaves, and the block
+pub record CompleteWith (p : Programs) (IsEnd : List ℕ → Type 0) (schedule block text : List ℕ) : Type 0 where
   pub complete : IsComplete p schedule
-  pub state : List ℕ
-  pub so : IsState state
-  pub whole : text ≡ state ++ block
+  pub end : List ℕ
+  pub so : IsEnd end
+  pub whole : text ≡ end ++ block
 
 -- a state stops a run in which these ranks may have the next turn: one of them is enabled and refused, or the state is stuck and the rank
 -- is the lowest that has events left
@@ -37,14 +39,19 @@ pub record StoppedWith (p : Programs) (IsNext : ℕ → Type 0) (schedule block 
   pub stops : Stops p (replay p schedule) IsNext rank cause
   pub whole : text ≡ stopped_line rank (length schedule) cause ++ block
 
+-- a text is due of a run that may have these schedules, and after each these ranks the next turn: with the texts of what schedules leave,
+-- and a block by whether the run is complete. Whether it is
+pub data IsDue
+    (p : Programs) (MayRun : List ℕ → Type 0) (MayBeNext : List ℕ → ℕ → Type 0)
+    (IsEnd : List ℕ → List ℕ → Type 0) (block : Bool → List ℕ → List ℕ) (text : List ℕ) : Bool → Type 0 where
+  Completes : (schedule : List ℕ) → MayRun schedule
+      → CompleteWith p (IsEnd schedule) schedule (block true schedule) text → IsDue p MayRun MayBeNext IsEnd block text true
+  StopsShort : (schedule : List ℕ) → MayRun schedule
+      → StoppedWith p (MayBeNext schedule) schedule (block false schedule) text → IsDue p MayRun MayBeNext IsEnd block text false
+
 -- ---- the orders of the commands
 
--- the lowest rank that may go on, or the one that a seed chooses
-pub data Order : Type 0 where
-  Lowest : Order
-  Seeded : (seed : ℕ) → Order
-
--- the words by which the ranks take their turns in this order
+-- the words by which the ranks take their turns
 abbrev pub order_words : Order → Words
 order_words Lowest = from_the_lowest
 order_words (Seeded seed) = seed_words seed
@@ -56,15 +63,6 @@ IsScheduleOf p o schedule = IsOrderFrom p (state_at_start p) (order_words o) sch
 -- the rank has the next turn after the schedule
 abbrev pub IsTurnAfter : Programs → Order → List ℕ → ℕ → Type 0
 IsTurnAfter p o schedule rank = IsFirstAround p (replay p schedule).tables (order_words o (length schedule) % length p.ranks) rank
-
--- a text is due where the ranks take their turns in this order: with the state texts of schedules, and a block for each schedule. Whether
--- the run is complete
-pub data IsDue
-    (p : Programs) (o : Order) (IsState : List ℕ → List ℕ → Type 0) (block : List ℕ → List ℕ) (text : List ℕ) : Bool → Type 0 where
-  Completes : (schedule : List ℕ) → IsScheduleOf p o schedule
-      → CompleteWith p (IsState schedule) schedule (block schedule) text → IsDue p o IsState block text true
-  StopsShort : (schedule : List ℕ) → IsScheduleOf p o schedule
-      → StoppedWith p (IsTurnAfter p o schedule) schedule (block schedule) text → IsDue p o IsState block text false
 
 -- ---- a machine that was played in this order from its start
 

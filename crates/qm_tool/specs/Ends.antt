@@ -4,7 +4,7 @@ use Rattle.qm_denot.specs.Circuits.{Amplitudes}
 use Rattle.qm_limits.specs.declared.TheConstants.{MOST_RANKS}
 use Rattle.qm_instr.specs.Programs.{Programs}
 use Rattle.qm_proto.specs.Model.Schedules.{protocol_total}
-use Rattle.qm_bits.specs.Numbers.{number_of_bits}
+use Rattle.qm_instr.specs.Bits.{number_of_bits}
 use Rattle.qm_machine.specs.Keeps.{MachineView, state_of}
 use Rattle.qm_print.specs.declared.Head.{Head}
 use Rattle.qm_print.specs.declared.Live.{Live}

@@ -1,10 +1,12 @@
 pub mod Statuses
-pub mod Dues
 pub mod Commands
+pub mod Dues
 pub mod Due
 pub mod Lines
+pub mod Refusals
 pub mod Reading
 pub mod Calls
+pub mod Promises
 pub mod Ends
 pub mod Running
 pub mod Answers

@@ -1,13 +1,11 @@
 -- A machine that was played: its status, its text, and what must hold before it is written
-use Rattle.std.specs.Prelude.{◌≡◌, ℕ, ◌≤◌, List, ◌++◌, length, Option, Some, None}
+use Rattle.std.specs.Prelude.{◌≡◌, ℕ, ◌≤◌, List, ◌++◌, length, Option, Some, None, is_none}
 use Rattle.qm_denot.specs.Stores.{Store, StandsFor}
 use Rattle.qm_limits.specs.declared.TheConstants.{MOST_RANKS}
 use Rattle.qm_instr.specs.Programs.{Programs, IsInRange}
 use Rattle.qm_machine.specs.declared.Halt.{Halt}
-use Rattle.qm_machine.specs.Keeps.{MachineView, state_of}
-use Rattle.qm_print.specs.declared.FaultLine.{FaultLine}
-use Rattle.qm_print.specs.declared.FaultLine.TheVariants as line
-use Rattle.qm_print.specs.FaultText.{fault_text, NamesNoAnswers}
+use Rattle.qm_machine.specs.Keeps.{state_of}
+use Rattle.qm_print.specs.FaultText.{stopped_line}
 use Rattle.qm_print.specs.declared.JobNumbers.{JobNumbers}
 use Rattle.qm_print.specs.JobText.{job_text}
 use Rattle.qm_print.specs.Slots.{AreLive, full_slots}
@@ -17,38 +15,32 @@ use Rattle.qm_tool.specs.declared.command.Recipe.{Recipe}
 use Rattle.qm_tool.specs.declared.running.Run.{Run}
 use Rattle.qm_tool.specs.declared.status.Status.{Status}
 use Rattle.qm_tool.specs.declared.status.Status.TheVariants as status
-use Rattle.qm_tool.specs.Commands.{order_of, block_of, kind_word}
+use Rattle.qm_tool.specs.Commands.{block_of, kind_word}
 use Rattle.qm_tool.specs.Dues.{HasPlayed}
 use Rattle.qm_tool.specs.Ends.{HeadSays, bits_in, text_under}
-use Rattle.qm_tool.specs.Statuses.{status_of_fault}
-
--- the line is that of the machine's halt, and there is one where it is halted
-abbrev pub IsStopOf : {A : Type 0} → MachineView A → Option FaultLine → Type 0
-IsStopOf m None = m.halted ≡ None
-IsStopOf m (Some f) = (h : Halt) × (m.halted ≡ Some h) × (f ≡ line.Stopped h.rank h.turns h.cause)
 
 -- ---- what is written
--- the status of a stop's line, or that of success where there is none
-abbrev pub status_where : Option FaultLine → Status
+-- the status where a machine has this halt, or none
+abbrev pub status_where : Option Halt → Status
 status_where None = status.Ok
-status_where (Some stop) = status_of_fault stop
+status_where (Some h) = status.Stopped
+
+-- the line of the halt, or this text where there is none
+abbrev pub text_where : List ℕ → Option Halt → List ℕ
+text_where text None = text
+text_where text (Some h) = stopped_line h.rank h.turns h.cause
 
 -- the status of a call that wrote the run's text
 abbrev pub run_status : {A : Type 0} → Run A → Status
-run_status run = status_where run.stop
+run_status run = status_where run.halt
 
--- the line of the stop, or the state text where there is none
-abbrev pub text_where : List ℕ → Option FaultLine → List ℕ
-text_where state None = state
-text_where state (Some stop) = fault_text stop
-
--- the line of a run's stop, or the state text of its end
+-- the line of a run's halt, or the state text of its end
 abbrev pub end_text : {A : Type 0} → (A → Store) → Run A → List ℕ
-end_text store run = text_where (text_under run.head run.live.items (store run.machine.amps).value) run.stop
+end_text store run = text_where (text_under run.head run.live.items (store run.machine.amps).value) run.halt
 
 -- and the block
 abbrev pub run_text : {A : Type 0} → (A → Store) → Run A → List ℕ
-run_text store run = end_text store run ++ block_of run.play run.machine.programs run.machine.schedule
+run_text store run = end_text store run ++ block_of run.play.listing (is_none run.halt) run.machine.programs run.machine.schedule
 
 -- the summary of a run of a made program
 abbrev pub job_numbers : {A : Type 0} → (A → Store) → Recipe → Run A → JobNumbers
@@ -61,20 +53,14 @@ job_numbers store r run = record {
   lines = line_count (store run.machine.amps).value run.live.items;
 }
 
--- the line of the stop, or the job text where there is none
+-- the line of the halt, or the job text where there is none
 abbrev pub work_text : {A : Type 0} → (A → Store) → Recipe → Run A → List ℕ
-work_text store r run = text_where (job_text (kind_word r.kind) (job_numbers store r run)) run.stop
-
--- the line of a stop can be written
-abbrev pub MayPutStop : Option FaultLine → Type 0
-MayPutStop None = Unit {0}
-MayPutStop (Some stop) = NamesNoAnswers stop
+work_text store r run = text_where (job_text (kind_word r.kind) (job_numbers store r run)) run.halt
 
 -- there are few ranks, and the slots hold different live wires
 pub record MayPutRun {A : Type 0} (store : A → Store) (run : Run A) : Type 0 where
   pub few : run.head.ranks ≤ MOST_RANKS
   pub live : AreLive (store run.machine.amps).live run.live.items
-  pub stop : MayPutStop run.stop
 
 -- ---- a run of the programs
 -- the machine was played in this way, from its start to its end
@@ -83,7 +69,7 @@ pub record IsRun {A : Type 0} (store : A → Store) (play : Play) (p : Programs)
   pub programs : run.machine.programs ≡ p
   pub in_range : IsInRange run.machine.programs
   pub stands : StandsFor (store run.machine.amps) (state_of run.machine).circuit
-  pub played : HasPlayed (order_of play) run.machine
-  pub stop : IsStopOf run.machine run.stop
+  pub played : HasPlayed play.order run.machine
+  pub halt_so : run.halt ≡ run.machine.halted
   pub head : HeadSays run.machine.programs (bits_in run.machine) (store run.machine.amps).exponent run.head
   pub slots : run.live.items ≡ full_slots run.machine.programs (state_of run.machine).tables.slots

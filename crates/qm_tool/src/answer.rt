@@ -18,7 +18,7 @@ use qm_print::{FaultLine, put_bytes, put_check, put_circuit, put_fault, put_stat
 #[derive(Drop)]
 pub(crate) enum Answer<A: Amps> {
     /// A line that says why there is no other text.
-    Fault { fault: FaultLine },
+    Line { fault: FaultLine },
     /// A run of a program.
     Played { run: Run<A> },
     /// The one circuit of programs.
@@ -27,10 +27,10 @@ pub(crate) enum Answer<A: Amps> {
     Valued { amplitudes: Amplitudes<A> },
     /// The check of programs, and whether their rendezvous run ends.
     Checked { ready: Ready, meets: bool },
-    /// The text of a made program.
-    Made { text: Vec<u8> },
     /// A run of a made program.
     Worked { recipe: Recipe, run: Run<A> },
+    /// A text as it is, and the status with it.
+    Text { status: Status, text: Vec<u8> },
 }
 
 impl<A: Amps> Answer<A> {
@@ -39,13 +39,10 @@ impl<A: Amps> Answer<A> {
         ensures { result ≡ status_of self.now }
     {
         match self {
-            Answer::Fault { fault } => Status::of_fault(fault),
-            Answer::Played { run } => run.status(),
-            Answer::Worked { run, .. } => run.status(),
-            Answer::Circuit { .. }
-            | Answer::Valued { .. }
-            | Answer::Checked { .. }
-            | Answer::Made { .. } => Status::Ok,
+            Answer::Line { fault } => Status::of_fault(fault),
+            Answer::Played { run } | Answer::Worked { run, .. } => run.status(),
+            Answer::Circuit { .. } | Answer::Valued { .. } | Answer::Checked { .. } => Status::Ok,
+            Answer::Text { status, .. } => *status,
         }
     }
 }
@@ -56,15 +53,15 @@ fn put_text<A: Amps, O: Sink>(sink: &mut O, answer: Answer<A>) -> Result<(), Fai
     ensures { Puts (O.seen sink.old) (O.seen sink.new) (text_of A.store answer) result }
 {
     match answer {
-        Answer::Fault { fault } => put_fault(sink, &fault),
+        Answer::Line { fault } => put_fault(sink, &fault),
         Answer::Played { run } => put_run(sink, &run),
         Answer::Circuit { ready, circuit } => put_circuit(sink, &circuit, &ready),
         Answer::Valued { amplitudes } => {
             put_state(sink, &amplitudes.head, &amplitudes.live, &amplitudes.amps)
         }
         Answer::Checked { ready, meets } => put_check(sink, &ready, meets),
-        Answer::Made { text } => put_bytes(sink, &text),
         Answer::Worked { recipe, run } => put_work(sink, recipe, &run),
+        Answer::Text { text, .. } => put_bytes(sink, &text),
     }
 }
 

@@ -1,34 +1,40 @@
 //! The commands, and the one reading of their words.
-ghost use Rattle.std.specs.Prelude.{◌≡◌, map, IfSome};
+ghost use Rattle.std.specs.Prelude.{◌≡◌, ◌≤◌, map, IfSome};
 ghost use Rattle.std.specs.String.{string_bytes};
 ghost use Rattle.qm_gen.specs.Sizes.{IsSize};
-ghost use Rattle.qm_tool.specs.Commands.{command_of, four_words, kind_of, making_of, number_of, one_word, recipe_of, size_of, two_words, IsSized, IsSizedMaking};
+ghost use Rattle.qm_tool.specs.Commands.{command_of, four_words, kind_of, number_of, one_word, recipe_of, seed_of, size_of, two_words, IsMakeable, IsSized, made_of};
 
 use qm_gen::GenKind;
 
-/// How a program is run: which rank has each turn.
+/// Which rank has each turn of a run.
 #[derive(Clone, Copy, PartialEq, Eq, Debug)]
-pub enum Play {
-    /// The lowest rank that is neither ended nor blocked.
-    Plain,
-    /// The rank that a seed chooses.
-    Sched { seed: u64 },
-    /// The rank that a seed chooses; the events of the turns are listed too.
-    Trace { seed: u64 },
+pub enum Order {
+    /// The lowest one that is neither ended nor blocked.
+    Lowest,
+    /// The one that a seed chooses.
+    Seeded { seed: u64 },
 }
 
-/// A command on the program that the source gives.
+/// What is listed after a run.
 #[derive(Clone, Copy, PartialEq, Eq, Debug)]
-pub enum Command {
-    /// Runs it.
-    Run { play: Play },
-    /// Writes its one circuit.
-    Mono,
-    /// Writes the amplitudes of its one circuit.
-    MonoAmps,
-    /// Writes its totals, and whether its rendezvous run ends.
-    Check,
+pub enum Listing {
+    Nothing,
+    /// The events of its turns.
+    Trace,
 }
+
+/// How a program is run.
+#[derive(Clone, Copy, PartialEq, Eq, Debug)]
+pub struct Play {
+    pub order: Order,
+    pub listing: Listing,
+}
+
+/// How a made program is run.
+pub(crate) const PLAIN: Play = Play {
+    order: Order::Lowest,
+    listing: Listing::Nothing,
+};
 
 /// A made program: its kind, its size, and the number from which the outcomes on its tapes are drawn.
 #[derive(Clone, Copy, PartialEq, Eq, Debug)]
@@ -39,29 +45,54 @@ pub struct Recipe {
     pub number: u64,
 }
 
-/// A command on a made program. It asks nothing of the source.
+/// A command. All but the last two take their program from the source.
 #[derive(Clone, Copy, PartialEq, Eq, Debug)]
-pub enum Making {
-    /// Writes its text.
+pub enum Command {
+    /// Runs the program.
+    Run { play: Play },
+    /// Writes its one circuit.
+    Mono,
+    /// Writes the amplitudes of its one circuit.
+    MonoAmps,
+    /// Writes its totals, and whether its rendezvous run ends.
+    Check,
+    /// Writes the text of a made program.
     Gen { recipe: Recipe },
-    /// Runs it, and writes a summary of the run.
+    /// Runs a made program, and writes a summary of the run.
     Job { recipe: Recipe },
 }
 
-/// How many digits a number may have.
+impl Command {
+    /// The made program that it is on. `None` where the source gives the program.
+    pub fn recipe(self) -> Option<Recipe>
+        ensures { result ≡ made_of self }
+    {
+        match self {
+            Command::Gen { recipe } => Some(recipe),
+            Command::Job { recipe } => Some(recipe),
+            _ => None,
+        }
+    }
+}
+
+/// How many digits a seed may have, and the number that a program is made from.
 const MOST_DIGITS: usize = 20;
+
+/// The largest of them, 2^64 - 1.
+const LARGEST_NUMBER: u64 = 18_446_744_073_709_551_615;
 
 /// How many digits a size may have.
 const MOST_SIZE_DIGITS: usize = 9;
 
-/// The largest number, 2^64 - 1.
-const LARGEST_NUMBER: u128 = 18_446_744_073_709_551_615;
+/// The largest number of so many digits.
+const LARGEST_SIZE: u64 = 999_999_999;
 
-/// The number that a word of 1 to [`MOST_DIGITS`] decimal digits is, if its value is at most [`LARGEST_NUMBER`].
-fn number_of(word: &[u8]) -> Option<u64>
-    ensures { result ≡ number_of word.now }
+/// The number that a word of 1 to `most` decimal digits is, if its value is at most `largest`.
+fn number_of(word: &[u8], most: usize, largest: u64) -> Option<u64>
+    ensures number { result ≡ number_of most largest word.now }
+    ensures small { IfSome result (λ n. n ≤ largest) }
 {
-    if word.is_empty() || word.len() > MOST_DIGITS {
+    if word.is_empty() || word.len() > most {
         return None;
     }
     let mut number = 0u128;
@@ -70,19 +101,27 @@ fn number_of(word: &[u8]) -> Option<u64>
             return None;
         }
         number = 10 * number + u128::from(*byte - b'0');
-        if number > LARGEST_NUMBER {
+        if number > u128::from(largest) {
             return None;
         }
     }
     Some(number as u64)
 }
 
+/// The number that a word of 1 to [`MOST_DIGITS`] decimal digits is, if its value is at most [`LARGEST_NUMBER`].
+fn seed_of(word: &String) -> Option<u64>
+    ensures { result ≡ seed_of (string_bytes word.now) }
+{
+    number_of(word.as_str().as_bytes(), MOST_DIGITS, LARGEST_NUMBER)
+}
+
 /// The command that one word is.
 fn one_word(word: &String) -> Option<Command>
-    ensures { result ≡ one_word (string_bytes word.now) }
+    ensures command { result ≡ one_word (string_bytes word.now) }
+    ensures makeable { IfSome result IsMakeable }
 {
     if word.as_str() == "plain" {
-        Some(Command::Run { play: Play::Plain })
+        Some(Command::Run { play: PLAIN })
     } else if word.as_str() == "mono" {
         Some(Command::Mono)
     } else if word.as_str() == "check" {
@@ -94,34 +133,27 @@ fn one_word(word: &String) -> Option<Command>
 
 /// The command that two words are.
 fn two_words(name: &String, word: &String) -> Option<Command>
-    ensures { result ≡ two_words (string_bytes name.now) (string_bytes word.now) }
+    ensures command { result ≡ two_words (string_bytes name.now) (string_bytes word.now) }
+    ensures makeable { IfSome result IsMakeable }
 {
     if name.as_str() == "sched" {
-        let seed = number_of(word.as_str().as_bytes())?;
-        Some(Command::Run {
-            play: Play::Sched { seed },
-        })
+        let seed = seed_of(word)?;
+        let play = Play {
+            order: Order::Seeded { seed },
+            listing: Listing::Nothing,
+        };
+        Some(Command::Run { play })
     } else if name.as_str() == "trace" {
-        let seed = number_of(word.as_str().as_bytes())?;
-        Some(Command::Run {
-            play: Play::Trace { seed },
-        })
+        let seed = seed_of(word)?;
+        let play = Play {
+            order: Order::Seeded { seed },
+            listing: Listing::Trace,
+        };
+        Some(Command::Run { play })
     } else if name.as_str() == "mono" && word.as_str() == "amps" {
         Some(Command::MonoAmps)
     } else {
         None
-    }
-}
-
-/// The command on a program of the source that words are, matched exactly. `None` where they are none of the forms `plain`, `sched K`,
-/// `trace K`, `mono`, `mono amps` and `check`.
-pub(crate) fn command_of(words: &[String]) -> Option<Command>
-    ensures { result ≡ command_of (map string_bytes words.now) }
-{
-    match words {
-        [word] => one_word(word),
-        [name, word] => two_words(name, word),
-        _ => None,
     }
 }
 
@@ -141,14 +173,12 @@ fn kind_of(word: &String) -> Option<GenKind>
 }
 
 /// The size that a word of 1 to 9 decimal digits is, if programs of this kind have it.
-fn size_of(kind: GenKind, word: &[u8]) -> Option<u32>
-    ensures size { result ≡ size_of kind word.now }
+fn size_of(kind: GenKind, word: &String) -> Option<u32>
+    ensures size { result ≡ size_of kind (string_bytes word.now) }
     ensures sized { IfSome result (IsSize kind) }
 {
-    if word.len() > MOST_SIZE_DIGITS {
-        return None;
-    }
-    let size = u32::try_from(number_of(word)?).ok()?;
+    let digits = word.as_str().as_bytes();
+    let size = number_of(digits, MOST_SIZE_DIGITS, LARGEST_SIZE)? as u32;
     if kind.has_size(size) {
         Some(size)
     } else {
@@ -163,35 +193,37 @@ fn recipe_of(kind: &String, size: &String, number: &String) -> Option<Recipe>
     ensures sized { IfSome result IsSized }
 {
     let kind = kind_of(kind)?;
-    let size = size_of(kind, size.as_str().as_bytes())?;
-    let number = number_of(number.as_str().as_bytes())?;
+    let size = size_of(kind, size)?;
+    let number = seed_of(number)?;
     Some(Recipe { kind, size, number })
 }
 
-/// The command on a made program that four words are.
-fn four_words(name: &String, kind: &String, size: &String, number: &String) -> Option<Making>
-    ensures making { result ≡ four_words (string_bytes name.now) (string_bytes kind.now)
+/// The command that four words are.
+fn four_words(name: &String, kind: &String, size: &String, number: &String) -> Option<Command>
+    ensures command { result ≡ four_words (string_bytes name.now) (string_bytes kind.now)
         (string_bytes size.now) (string_bytes number.now) }
-    ensures sized { IfSome result IsSizedMaking }
+    ensures makeable { IfSome result IsMakeable }
 {
     if name.as_str() == "gen" {
         let recipe = recipe_of(kind, size, number)?;
-        Some(Making::Gen { recipe })
+        Some(Command::Gen { recipe })
     } else if name.as_str() == "job" {
         let recipe = recipe_of(kind, size, number)?;
-        Some(Making::Job { recipe })
+        Some(Command::Job { recipe })
     } else {
         None
     }
 }
 
-/// The command on a made program that words are, matched exactly. `None` where they are neither of the forms `gen KIND SIZE NUMBER` and
-/// `job KIND SIZE NUMBER`.
-pub(crate) fn making_of(words: &[String]) -> Option<Making>
-    ensures making { result ≡ making_of (map string_bytes words.now) }
-    ensures sized { IfSome result IsSizedMaking }
+/// The command that words are, matched exactly. `None` where they are none of the forms `plain`, `sched K`, `trace K`, `mono`, `mono amps`,
+/// `check`, `gen KIND SIZE NUMBER` and `job KIND SIZE NUMBER`.
+pub fn command_of(words: &[String]) -> Option<Command>
+    ensures command { result ≡ command_of (map string_bytes words.now) }
+    ensures makeable { IfSome result IsMakeable }
 {
     match words {
+        [word] => one_word(word),
+        [name, word] => two_words(name, word),
         [name, kind, size, number] => four_words(name, kind, size, number),
         _ => None,
     }

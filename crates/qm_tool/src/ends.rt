@@ -2,7 +2,7 @@
 ghost use Rattle.std.specs.Prelude.{◌≡◌, ◌<◌, ◌≤◌, ◌++◌, ℕ, List, Bool, Option, length, IfOk, OnOk};
 ghost use Rattle.qm_denot.specs.declared.Wire.{Wire};
 ghost use Rattle.qm_instr.specs.Programs.{IsInRange, rank_of};
-ghost use Rattle.qm_bits.specs.Numbers.{number_of_bits};
+ghost use Rattle.qm_instr.specs.Bits.{number_of_bits};
 ghost use Rattle.qm_ideal.specs.OneCircuits.{bits_of, slot_of};
 ghost use Rattle.qm_machine.specs.Keeps.{state_of};
 ghost use Rattle.qm_print.specs.Slots.{full_slots, rank_slots};

@@ -8,13 +8,11 @@ mod ends;
 pub mod laws;
 mod made;
 mod reading;
+mod refusal;
 mod running;
 mod status;
 mod top;
 
-pub use command::{Command, Making, Play, Recipe};
+pub use command::{Command, Listing, Order, Play, Recipe, command_of};
 pub use status::Status;
 pub use top::tool_plain;
-
-#[cfg(test)]
-mod tests;

@@ -1,60 +1,46 @@
-//! From a text to programs that have no fault.
-ghost use Rattle.std.specs.Prelude.{◌≡◌, ◌≤◌, length, IfErr, IfOk};
-ghost use Rattle.qm_tool.specs.Due.{ReadsReady, reading_fault};
-ghost use Rattle.qm_tool.specs.Reading.{Explains};
+//! From a command to the text of its program, and to programs that have no fault.
+ghost use Rattle.std.specs.Prelude.{◌≤◌, length, IfErr, IfOk, IfSome};
+ghost use Rattle.qm_gen.specs.Laws.{IsReadyText};
+ghost use Rattle.qm_tool.specs.Calls.{CameFrom};
+ghost use Rattle.qm_tool.specs.Commands.{made_of, IsMakeable};
+ghost use Rattle.qm_tool.specs.Due.{ReadsReady};
+ghost use Rattle.qm_tool.specs.Reading.{IsUngiven, IsUnready};
 
-use qm_check::{CheckError, Ready, check};
-use qm_expand::{ReadError, read};
+use crate::command::Command;
+use crate::refusal::Refusal;
+use qm_check::{Ready, check};
+use qm_expand::read;
+use qm_gen::make;
+use qm_io::{Source, read_all};
 use qm_limits::MOST_BYTES;
-use qm_print::FaultLine;
 use std::alloc::Global;
 
-/// Why a text gives no programs that may run.
-#[derive(Clone, Copy, PartialEq, Eq, Debug)]
-pub(crate) enum Unread {
-    /// The first fault of its reading or of the check.
-    Refused { fault: FaultLine },
-    /// The allocator has no memory left.
-    Memory,
-}
-
-/// The line for a fault of reading; `None` for want of memory.
-fn reading_fault(error: ReadError) -> Option<FaultLine>
-    ensures { result ≡ reading_fault error }
+/// The text of a command's program: it is made, or it is all that the source has left. `Memory` comes only where memory runs out.
+pub(crate) fn text_for<I: Source>(
+    alloc: Global,
+    command: Command,
+    source: &mut I,
+) -> Result<Vec<u8>, Refusal>
+    requires { IsMakeable command }
+    ensures came { IfOk result (λ text. CameFrom (made_of command) (I.seen source.old)
+        (I.seen source.new) text.items) }
+    ensures short { IfOk result (λ text. length text.items ≤ MOST_BYTES) }
+    ensures made { IfOk result (λ text. IfSome (made_of command) (λ r. IsReadyText text.items)) }
+    ensures err { IfErr result (IsUngiven (made_of command) (I.seen source.old)
+        (I.seen source.new)) }
 {
-    match error {
-        ReadError::BadByte { line } => Some(FaultLine::BadByte { line }),
-        ReadError::Unexpected { line } => Some(FaultLine::Unexpected { line }),
-        ReadError::NumberTooLarge { line } => Some(FaultLine::NumberTooLarge { line }),
-        ReadError::TooDeep { line } => Some(FaultLine::TooDeep { line }),
-        ReadError::Unended { line } => Some(FaultLine::Unended { line }),
-        ReadError::UnknownName { line } => Some(FaultLine::UnknownName { line }),
-        ReadError::OutOfRange { line } => Some(FaultLine::OutOfRange { line }),
-        ReadError::TooMany { line } => Some(FaultLine::TooMany { line }),
-        ReadError::Memory => None,
+    match command.recipe() {
+        Some(recipe) => Ok(make(alloc, recipe.kind, recipe.size, recipe.number)?),
+        None => Ok(read_all(alloc, source)?),
     }
 }
 
 /// Reads the programs of a text of at most [`MOST_BYTES`] bytes, and checks them. `Memory` comes only where memory runs out.
-pub(crate) fn read_ready(alloc: Global, text: &[u8]) -> Result<Ready, Unread>
+pub(crate) fn read_ready(alloc: Global, text: &[u8]) -> Result<Ready, Refusal>
     requires { length text.now ≤ MOST_BYTES }
     ensures ok { IfOk result (ReadsReady text.now) }
-    ensures err { IfErr result (Explains text.now) }
+    ensures err { IfErr result (IsUnready text.now) }
 {
-    let input = match read(alloc, text) {
-        Ok(input) => input,
-        Err(error) => {
-            return match reading_fault(error) {
-                Some(fault) => Err(Unread::Refused { fault }),
-                None => Err(Unread::Memory),
-            };
-        }
-    };
-    match check(alloc, input) {
-        Ok(ready) => Ok(ready),
-        Err(CheckError::Fault { fault }) => Err(Unread::Refused {
-            fault: FaultLine::Unready { fault },
-        }),
-        Err(CheckError::Memory) => Err(Unread::Memory),
-    }
+    let input = read(alloc, text)?;
+    Ok(check(alloc, input)?)
 }

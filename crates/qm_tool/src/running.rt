@@ -1,20 +1,22 @@
 //! Commands that run a program: a machine is played, and what it comes to is written.
-ghost use Rattle.std.specs.Prelude.{◌≡◌, ◌≤◌, [], None, IfOk};
+ghost use Rattle.std.specs.Prelude.{◌≡◌, ◌≤◌, [], None, Ok, IfOk, is_none};
 ghost use Rattle.qm_denot.specs.Stores.{StandsFor};
 ghost use Rattle.qm_check.specs.Checks.{capacity_of};
+ghost use Rattle.qm_expand.specs.Reading.{Reads};
 ghost use Rattle.qm_io.specs.Ends.{Puts};
 ghost use Rattle.qm_machine.specs.Keeps.{Keeps};
-ghost use Rattle.qm_tool.specs.Commands.{order_of, block_of};
+ghost use Rattle.qm_print.specs.FaultText.{stopped_line};
+ghost use Rattle.qm_tool.specs.Commands.{block_of};
 ghost use Rattle.qm_tool.specs.Dues.{HasPlayed};
-ghost use Rattle.qm_tool.specs.Running.{IsRun, IsStopOf, MayPutRun, end_text, job_numbers, run_status, run_text};
+ghost use Rattle.qm_tool.specs.Running.{IsRun, MayPutRun, end_text, job_numbers, run_status, run_text};
 
-use crate::command::{Play, Recipe};
+use crate::command::{Listing, Order, Play, Recipe};
 use crate::ends::{full_slots, head_of};
 use crate::status::Status;
 use qm_check::Ready;
 use qm_denot::Amps;
 use qm_io::{Failed, Sink};
-use qm_machine::{Machine, State};
+use qm_machine::{Halt, Machine, State};
 use qm_print::{FaultLine, Head, JobNumbers, Live, count_lines, put_fault, put_state, put_trace};
 use qm_ranks::{play_order, play_seed};
 use std::alloc::{AllocError, Global};
@@ -24,56 +26,67 @@ use std::alloc::{AllocError, Global};
 pub(crate) struct Run<A: Amps> {
     play: Play,
     machine: Machine<A>,
-    /// The line of where and why it stopped, if it did.
-    stop: Option<FaultLine>,
+    /// Where and why it stopped, if it did.
+    halt: Option<Halt>,
     head: Head,
     live: Vec<Live>,
 }
 
 impl<A: Amps> Run<A> {
-    /// Runs ready programs over a store that stands for the empty circuit. `AllocError` comes from the allocator alone.
+    /// Runs the programs of a text over a store that stands for the empty circuit. `AllocError` comes from the allocator alone.
     pub(crate) fn start(
         alloc: Global,
         play: Play,
+        text: Vec<u8>,
         ready: Ready,
         amps: A,
     ) -> Result<Run<A>, AllocError>
         requires able { A.able }
+        requires read { Reads text.items (Ok ready) }
         requires stands { StandsFor (A.store amps) [] }
         requires live { (A.store amps).live ≡ [] }
         requires room { capacity_of ready ≤ (A.store amps).capacity }
         ensures run { IfOk result (IsRun A.store play ready) }
         ensures may_put { IfOk result (MayPutRun A.store) }
     {
-        let mut machine = Machine::start(alloc, ready, amps)?;
-        play_as(&mut machine, play);
-        let stop = stop_of(&machine);
+        let mut machine = Machine::start(alloc, text, ready, amps)?;
+        play_as(&mut machine, play.order);
+        Run::of(alloc, play, machine)
+    }
+
+    /// What the text of a machine says that was played to its end. `AllocError` comes from the allocator alone.
+    pub(crate) fn of(alloc: Global, play: Play, machine: Machine<A>) -> Result<Run<A>, AllocError>
+        requires { HasPlayed play.order machine }
+        ensures run { IfOk result (IsRun A.store play machine.programs) }
+        ensures may_put { IfOk result (MayPutRun A.store) }
+    {
+        let halt = halt_of(&machine);
         let head = head_of(machine.ready(), &machine, machine.amps().exponent());
         let live = full_slots(alloc, machine.ready().input(), &machine)?;
         Ok(Run {
             play,
             machine,
-            stop,
+            halt,
             head,
             live,
         })
+    }
+
+    /// Where and why it stopped, if it did.
+    pub(crate) fn halt(&self) -> Option<Halt>
+        ensures { result ≡ self.now.halt }
+    {
+        self.halt
     }
 
     /// The status of a call that wrote the run's text.
     pub(crate) fn status(&self) -> Status
         ensures { result ≡ run_status self.now }
     {
-        match &self.stop {
-            Some(stop) => Status::of_fault(stop),
+        match self.halt {
+            Some(_) => Status::Stopped,
             None => Status::Ok,
         }
-    }
-
-    /// The line of where and why it stopped, if it did.
-    pub(crate) fn stop(&self) -> Option<FaultLine>
-        ensures { result ≡ self.now.stop }
-    {
-        self.stop
     }
 
     /// The summary of a run of a made program.
@@ -93,33 +106,37 @@ impl<A: Amps> Run<A> {
 }
 
 /// Plays a machine from its start, until no rank has an event left or the machine is halted.
-fn play_as<A: Amps>(machine: &mut Machine<A>, play: Play)
+fn play_as<A: Amps>(machine: &mut Machine<A>, order: Order)
     requires able { A.able }
     requires start { machine.old.schedule ≡ [] }
     requires running { machine.old.halted ≡ None }
     ensures programs { machine.new.programs ≡ machine.old.programs }
-    ensures played { HasPlayed (order_of play) machine.new }
+    ensures played { HasPlayed order machine.new }
 {
-    match play {
-        Play::Plain => play_order(machine),
-        Play::Sched { seed } => play_seed(machine, seed),
-        Play::Trace { seed } => play_seed(machine, seed),
+    match order {
+        Order::Lowest => play_order(machine),
+        Order::Seeded { seed } => play_seed(machine, seed),
     }
 }
 
-/// The line of where and why a machine was halted, if it was.
-fn stop_of<A: Amps>(machine: &Machine<A>) -> Option<FaultLine>
-    ensures stop { IsStopOf machine.now result }
+/// Where and why a machine was halted, if it was.
+fn halt_of<A: Amps>(machine: &Machine<A>) -> Option<Halt>
+    ensures halt { result ≡ machine.now.halted }
     ensures kept { Keeps A.store machine.now }
 {
     match machine.state() {
-        State::Halted { halt } => Some(FaultLine::Stopped {
-            rank: halt.rank,
-            turns: halt.turns,
-            cause: halt.cause,
-        }),
+        State::Halted { halt } => Some(halt),
         State::AllEnded | State::Running => None,
     }
+}
+
+/// Writes the line of where and why a run stopped.
+pub(crate) fn put_halt<O: Sink>(sink: &mut O, halt: Halt) -> Result<(), Failed>
+    ensures { Puts (O.seen sink.old) (O.seen sink.new)
+        (stopped_line halt.rank halt.turns halt.cause) result }
+{
+    let Halt { rank, turns, cause } = halt;
+    put_fault(sink, &FaultLine::Stopped { rank, turns, cause })
 }
 
 /// Writes the state text of a run that ended, or the line of where and why it stopped.
@@ -127,21 +144,21 @@ fn put_end<A: Amps, O: Sink>(sink: &mut O, run: &Run<A>) -> Result<(), Failed>
     requires { MayPutRun A.store run.now }
     ensures { Puts (O.seen sink.old) (O.seen sink.new) (end_text A.store run.now) result }
 {
-    match &run.stop {
-        Some(stop) => put_fault(sink, stop),
+    match run.halt {
+        Some(halt) => put_halt(sink, halt),
         None => put_state(sink, &run.head, &run.live, run.machine.amps()),
     }
 }
 
-/// Writes the block of a run's schedule, where its command asks for one.
+/// Writes the block of a run's schedule, where its command lists one.
 fn put_block<A: Amps, O: Sink>(sink: &mut O, run: &Run<A>) -> Result<(), Failed>
     ensures { Puts (O.seen sink.old) (O.seen sink.new)
-        (block_of run.now.play run.now.machine.programs run.now.machine.schedule) result }
+        (block_of run.now.play.listing (is_none run.now.halt) run.now.machine.programs
+        run.now.machine.schedule) result }
 {
-    match run.play {
-        Play::Plain => Ok(()),
-        Play::Sched { .. } => Ok(()),
-        Play::Trace { .. } => put_trace(sink, run.machine.ready(), run.machine.schedule()),
+    match run.play.listing {
+        Listing::Nothing => Ok(()),
+        Listing::Trace => put_trace(sink, run.machine.ready(), run.machine.schedule()),
     }
 }
 

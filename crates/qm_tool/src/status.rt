@@ -25,7 +25,7 @@ pub enum Status {
     OutOfMemory,
     /// The programs have no one circuit, since ranks wait for each other.
     Waits,
-    /// The one circuit has more wires at once than [`qm_limits::MOST_CAPACITY_1`].
+    /// The one circuit has more wires at once than programs of the version may have.
     Wide,
     /// A letter of the one circuit leaves the range of the numbers.
     LetterOverflow,

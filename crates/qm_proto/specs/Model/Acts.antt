@@ -18,8 +18,8 @@ list_of (Two a b) = a ∷ b ∷ []
 list_of (Three a b c) = a ∷ b ∷ c ∷ []
 
 -- a rank that has counted one wire more
-abbrev pub counted : Part → Part
-counted x = record x { made = x.made + 1 }
+abbrev pub with_one_counted : Part → Part
+with_one_counted x = record x { made = x.made + 1 }
 
 -- counts with one more, and one less, at r
 abbrev pub more_at : (ℕ → ℕ) → ℕ → (ℕ → ℕ)
@@ -29,49 +29,49 @@ abbrev pub less_at : (ℕ → ℕ) → ℕ → (ℕ → ℕ)
 less_at f r = with_at f r (f r - 1)
 
 -- the tables after an act of rank r
-abbrev pub done : ℕ → Act → Tables → Tables
-done r (Fresh q) t =
-    record t { parts = with_at t.parts r (counted (t.parts r)); slots = with_slot t.slots r q (Some (far_made t r)) }
-done r (Twin to) t =
+abbrev pub after_act : ℕ → Act → Tables → Tables
+after_act r (Fresh q) t =
+    record t { parts = with_at t.parts r (with_one_counted (t.parts r)); slots = with_slot t.slots r q (Some (far_made t r)) }
+after_act r (Twin to) t =
     record t {
-      parts = with_at t.parts r (counted (t.parts r));
+      parts = with_at t.parts r (with_one_counted (t.parts r));
       near = with_at t.near r (put (t.near r) (near_made t r) true);
       far = with_at t.far to (put (t.far to) (far_made t r) true);
       held = more_at (more_at t.held r) to;
     }
-done r (Apply l) t = t
-done r (SlotOut q m) t = record t { slots = with_slot t.slots r q None }
-done r (NearOut m) t = record t { near = with_at t.near r (put (t.near r) (near_last t r) false); held = less_at t.held r }
-done r (FarOut f m) t = record t { far = with_at t.far r (put (t.far r) f false); held = less_at t.held r }
-done r (Settle f q) t =
+after_act r (Apply l) t = t
+after_act r (SlotOut q m) t = record t { slots = with_slot t.slots r q None }
+after_act r (NearOut m) t = record t { near = with_at t.near r (put (t.near r) (near_last t r) false); held = less_at t.held r }
+after_act r (FarOut f m) t = record t { far = with_at t.far r (put (t.far r) f false); held = less_at t.held r }
+after_act r (Settle f q) t =
     record t { slots = with_slot t.slots r q (Some f); far = with_at t.far r (put (t.far r) f false); held = less_at t.held r }
-done r (Posts a x) t = record t { lanes = with_lane t.lanes a (t.lanes a ++ x ∷ []) }
-done r (Fills a b) t = record t { lanes = with_lane t.lanes a (filled (t.lanes a) b) }
-done r (Receives a) t =
+after_act r (Posts a x) t = record t { lanes = with_lane t.lanes a (t.lanes a ++ x ∷ []) }
+after_act r (Fills a b) t = record t { lanes = with_lane t.lanes a (filled (t.lanes a) b) }
+after_act r (Receives a) t =
     record t {
       parts = with_at t.parts r (record (t.parts r) { taken = front t a });
       lanes = with_lane t.lanes a (drop 1 (t.lanes a));
     }
-done r OwnUsed t = with_part t r (record (t.parts r) { own = drop 1 (t.parts r).own })
-done r ProtocolUsed t = with_part t r (record (t.parts r) { protocol = drop 1 (t.parts r).protocol })
-done r (FirstKept m) t = with_part t r (record (t.parts r) { first = m })
-done r (BitSet b v) t = with_part t r (record (t.parts r) { bits = slice_set (t.parts r).bits b v })
+after_act r OwnUsed t = with_part t r (record (t.parts r) { own = drop 1 (t.parts r).own })
+after_act r ProtocolUsed t = with_part t r (record (t.parts r) { protocol = drop 1 (t.parts r).protocol })
+after_act r (FirstKept m) t = with_part t r (record (t.parts r) { first = m })
+after_act r (BitSet b v) t = with_part t r (record (t.parts r) { bits = slice_set (t.parts r).bits b v })
 
 -- the letters of an act of rank r
-abbrev pub letters_of : ℕ → Act → Tables → List Letter
-letters_of r (Twin to) t = Pair (near_made t r) (far_made t r) ∷ []
-letters_of r (Apply l) t = l ∷ []
-letters_of r (SlotOut q m) t = Take (wire_in t r q) m ∷ []
-letters_of r (NearOut m) t = Take (near_last t r) m ∷ []
-letters_of r (FarOut f m) t = Take f m ∷ []
-letters_of r _ t = []
+abbrev pub act_letters : ℕ → Act → Tables → List Letter
+act_letters r (Twin to) t = Pair (near_made t r) (far_made t r) ∷ []
+act_letters r (Apply l) t = l ∷ []
+act_letters r (SlotOut q m) t = Take (wire_in t r q) m ∷ []
+act_letters r (NearOut m) t = Take (near_last t r) m ∷ []
+act_letters r (FarOut f m) t = Take f m ∷ []
+act_letters r _ t = []
 
 -- the tables after the acts of a list
-abbrev pub all_done : ℕ → List Act → Tables → Tables
-all_done r [] t = t
-all_done r (a ∷ acts) t = all_done r acts (done r a t)
+abbrev pub after_acts : ℕ → List Act → Tables → Tables
+after_acts r [] t = t
+after_acts r (a ∷ acts) t = after_acts r acts (after_act r a t)
 
 -- the letters of the acts of a list, each as the tables stand when its turn comes
-abbrev pub all_letters : ℕ → List Act → Tables → List Letter
-all_letters r [] t = []
-all_letters r (a ∷ acts) t = letters_of r a t ++ all_letters r acts (done r a t)
+abbrev pub acts_letters : ℕ → List Act → Tables → List Letter
+acts_letters r [] t = []
+acts_letters r (a ∷ acts) t = act_letters r a t ++ acts_letters r acts (after_act r a t)

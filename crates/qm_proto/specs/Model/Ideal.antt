@@ -60,14 +60,14 @@ pub data IdealAct : Type 0 where
   BitSet : (b : ℕ) (v : Bool) → IdealAct  -- bit b becomes v
 
 -- a line of the table: what the step waits for, its letters, and its acts
-pub record Step : Type 0 where
+pub record IdealRow : Type 0 where
   pub rule : IdealRule
   pub letters : List Letter
   pub acts : List IdealAct
 
 -- a line with this rule, these letters and these acts
-abbrev pub step : IdealRule → List Letter → List IdealAct → Step
-step rule letters acts = record { rule = rule; letters = letters; acts = acts }
+abbrev pub ideal_row : IdealRule → List Letter → List IdealAct → IdealRow
+ideal_row rule letters acts = record { rule = rule; letters = letters; acts = acts }
 
 -- the wire in slot q of rank r, bit b of rank r, and the wire that rank r's count names
 abbrev pub ideal_wire_in : IdealTables → ℕ → ℕ → Wire
@@ -76,8 +76,8 @@ ideal_wire_in t r q = unwrap_or (t.slots r q) no_wire
 abbrev pub ideal_bit_of : IdealTables → ℕ → ℕ → Bool
 ideal_bit_of t r b = slice_index_or (t.parts r).bits b false
 
-abbrev pub ideal_made : IdealTables → ℕ → Wire
-ideal_made t r = record { rank = r; made = (t.parts r).made; near = false }
+abbrev pub ideal_wire_made : IdealTables → ℕ → Wire
+ideal_wire_made t r = record { rank = r; made = (t.parts r).made; near = false }
 
 -- the load at the front of a lane, its wire, and its bit
 abbrev pub load_at : IdealTables → Lane → Load
@@ -96,49 +96,49 @@ abbrev pub ideal_current : Programs → IdealTables → ℕ → Option Instr
 ideal_current p t r = instr_at p r (t.parts r).at
 
 -- the wire that rank d offers, which stands at an `undofrom` or a `reachto`
-abbrev pub ideal_offered : Programs → IdealTables → ℕ → Wire
-ideal_offered p t d = wire_offered (ideal_wire_in t d) (ideal_current p t d)
+abbrev pub ideal_wire_offered : Programs → IdealTables → ℕ → Wire
+ideal_wire_offered p t d = wire_offered (ideal_wire_in t d) (ideal_current p t d)
 
 -- a step that takes the front wire of a lane into slot q
-abbrev pub taking : IdealTables → Lane → ℕ → Step
-taking t a q = step (Filled a) [] (Takes a ∷ SlotSet q (Some (wire_carried (load_at t a))) ∷ [])
+abbrev pub take_row : IdealTables → Lane → ℕ → IdealRow
+take_row t a q = ideal_row (Filled a) [] (Takes a ∷ SlotSet q (Some (wire_carried (load_at t a))) ∷ [])
 
 -- rank r's step for an instruction
-abbrev pub step_of : Programs → IdealTables → ℕ → Instr → Step
-step_of p t r (instr.Alloc q) = step Always [] (Counts ∷ SlotSet q (Some (ideal_made t r)) ∷ [])
-step_of p t r (instr.Do g) = step Always (gate_letter (ideal_wire_in t r) g ∷ []) []
-step_of p t r (instr.Free q) = step Always (Take (ideal_wire_in t r q) false ∷ []) (SlotSet q None ∷ [])
-step_of p t r (instr.Measure q b) =
+abbrev pub ideal_row_of : Programs → IdealTables → ℕ → Instr → IdealRow
+ideal_row_of p t r (instr.Alloc q) = ideal_row Always [] (Counts ∷ SlotSet q (Some (ideal_wire_made t r)) ∷ [])
+ideal_row_of p t r (instr.Do g) = ideal_row Always (gate_letter (ideal_wire_in t r) g ∷ []) []
+ideal_row_of p t r (instr.Free q) = ideal_row Always (Take (ideal_wire_in t r q) false ∷ []) (SlotSet q None ∷ [])
+ideal_row_of p t r (instr.Measure q b) =
     let m = slice_index_or (t.parts r).own 0 false in
-    step Always (Keep (ideal_wire_in t r q) m ∷ []) (OwnUsed ∷ BitSet b m ∷ [])
-step_of p t r (instr.Set b v) = step Always [] (BitSet b v ∷ [])
-step_of p t r (instr.Xor b c) = step Always [] (BitSet b (differing (ideal_bit_of t r b) (ideal_bit_of t r c)) ∷ [])
-step_of p t r (instr.When b g) = step Always (letter_if (ideal_bit_of t r b) (gate_letter (ideal_wire_in t r) g)) []
-step_of p t r (instr.SendBit b to tag) = step Always [] (Puts (lane r to kind.Bit tag) (Told (ideal_bit_of t r b)) ∷ [])
-step_of p t r (instr.RecvBit b from tag) =
+    ideal_row Always (Keep (ideal_wire_in t r q) m ∷ []) (OwnUsed ∷ BitSet b m ∷ [])
+ideal_row_of p t r (instr.Set b v) = ideal_row Always [] (BitSet b v ∷ [])
+ideal_row_of p t r (instr.Xor b c) = ideal_row Always [] (BitSet b (differing (ideal_bit_of t r b) (ideal_bit_of t r c)) ∷ [])
+ideal_row_of p t r (instr.When b g) = ideal_row Always (letter_if (ideal_bit_of t r b) (gate_letter (ideal_wire_in t r) g)) []
+ideal_row_of p t r (instr.SendBit b to tag) = ideal_row Always [] (Puts (lane r to kind.Bit tag) (Told (ideal_bit_of t r b)) ∷ [])
+ideal_row_of p t r (instr.RecvBit b from tag) =
     let a = lane from r kind.Bit tag in
-    step (Filled a) [] (Takes a ∷ BitSet b (bit_told (load_at t a)) ∷ [])
-step_of p t r (instr.CopyTo q to tag) =
-    let f = ideal_made t r in
-    step Always (Cx (ideal_wire_in t r q) f ∷ []) (Counts ∷ Puts (lane r to kind.Copy tag) (Carried f) ∷ [])
-step_of p t r (instr.CopyFrom q from tag) = taking t (lane from r kind.Copy tag) q
-step_of p t r (instr.UndoTo q to tag) =
+    ideal_row (Filled a) [] (Takes a ∷ BitSet b (bit_told (load_at t a)) ∷ [])
+ideal_row_of p t r (instr.CopyTo q to tag) =
+    let f = ideal_wire_made t r in
+    ideal_row Always (Cx (ideal_wire_in t r q) f ∷ []) (Counts ∷ Puts (lane r to kind.Copy tag) (Carried f) ∷ [])
+ideal_row_of p t r (instr.CopyFrom q from tag) = take_row t (lane from r kind.Copy tag) q
+ideal_row_of p t r (instr.UndoTo q to tag) =
     let w = ideal_wire_in t r q in
     let a = lane r to kind.Undo tag in
-    step (Engaged a) (Cx (ideal_offered p t to) w ∷ Take w false ∷ []) (SlotSet q None ∷ Puts a Token ∷ [])
-step_of p t r (instr.UndoFrom q from tag) =
+    ideal_row (Engaged a) (Cx (ideal_wire_offered p t to) w ∷ Take w false ∷ []) (SlotSet q None ∷ Puts a Token ∷ [])
+ideal_row_of p t r (instr.UndoFrom q from tag) =
     let a = lane from r kind.Undo tag in
-    step (Filled a) [] (Takes a ∷ [])
-step_of p t r (instr.MoveTo q to tag) =
-    let f = ideal_made t r in
-    step Always (Rename (ideal_wire_in t r q) f ∷ []) (Counts ∷ SlotSet q None ∷ Puts (lane r to kind.Move tag) (Carried f) ∷ [])
-step_of p t r (instr.MoveFrom q from tag) = taking t (lane from r kind.Move tag) q
-step_of p t r (instr.ReachTo q to tag) =
+    ideal_row (Filled a) [] (Takes a ∷ [])
+ideal_row_of p t r (instr.MoveTo q to tag) =
+    let f = ideal_wire_made t r in
+    ideal_row Always (Rename (ideal_wire_in t r q) f ∷ []) (Counts ∷ SlotSet q None ∷ Puts (lane r to kind.Move tag) (Carried f) ∷ [])
+ideal_row_of p t r (instr.MoveFrom q from tag) = take_row t (lane from r kind.Move tag) q
+ideal_row_of p t r (instr.ReachTo q to tag) =
     let back = lane to r kind.Back tag in
-    step (Filled back) [] (Counts ∷ Takes back ∷ [])
-step_of p t r (instr.ReachFrom q from tag) =
+    ideal_row (Filled back) [] (Counts ∷ Takes back ∷ [])
+ideal_row_of p t r (instr.ReachFrom q from tag) =
     let back = lane r from kind.Back tag in
-    step (Lent (lane from r kind.Reach tag) back) (Cx (ideal_offered p t from) (ideal_wire_in t r q) ∷ []) (Puts back Token ∷ [])
+    ideal_row (Lent (lane from r kind.Reach tag) back) (Cx (ideal_wire_offered p t from) (ideal_wire_in t r q) ∷ []) (Puts back Token ∷ [])
 
 -- whether an instruction of rank r, where there is one, is a send on lane a
 abbrev pub sends_on : ℕ → Option Instr → Lane → Bool
@@ -157,41 +157,41 @@ ideal_holds p t (Engaged a) = receives_on a.to (ideal_current p t a.to) a && is_
 ideal_holds p t (Lent a back) = sends_on a.from (ideal_current p t a.from) a && is_empty_lane t back
 
 -- whether an instruction of rank r, where there is one, may be done
-abbrev pub may_do : Programs → IdealTables → ℕ → Option Instr → Bool
-may_do p t r None = false
-may_do p t r (Some i) = ideal_holds p t (step_of p t r i).rule
+abbrev pub instr_enabled : Programs → IdealTables → ℕ → Option Instr → Bool
+instr_enabled p t r None = false
+instr_enabled p t r (Some i) = ideal_holds p t (ideal_row_of p t r i).rule
 
 -- whether rank r is enabled: it has an instruction left, and what its step waits for is so
 abbrev pub ideal_enabled : Programs → IdealTables → ℕ → Bool
-ideal_enabled p t r = may_do p t r (ideal_current p t r)
+ideal_enabled p t r = instr_enabled p t r (ideal_current p t r)
 
 -- the tables with another part of rank r
 abbrev pub with_ideal_part : IdealTables → ℕ → IdealPart → IdealTables
 with_ideal_part t r x = record t { parts = with_at t.parts r x }
 
 -- the tables after an act of rank r
-abbrev pub ideal_done : ℕ → IdealTables → IdealAct → IdealTables
-ideal_done r t Counts = with_ideal_part t r (record (t.parts r) { made = (t.parts r).made + 1 })
-ideal_done r t (SlotSet q w) = record t { slots = with_slot t.slots r q w }
-ideal_done r t (Puts a x) = record t { lanes = with_lane t.lanes a (t.lanes a ++ x ∷ []) }
-ideal_done r t (Takes a) = record t { lanes = with_lane t.lanes a (drop 1 (t.lanes a)) }
-ideal_done r t OwnUsed = with_ideal_part t r (record (t.parts r) { own = drop 1 (t.parts r).own })
-ideal_done r t (BitSet b v) = with_ideal_part t r (record (t.parts r) { bits = slice_set (t.parts r).bits b v })
+abbrev pub ideal_after_act : ℕ → IdealTables → IdealAct → IdealTables
+ideal_after_act r t Counts = with_ideal_part t r (record (t.parts r) { made = (t.parts r).made + 1 })
+ideal_after_act r t (SlotSet q w) = record t { slots = with_slot t.slots r q w }
+ideal_after_act r t (Puts a x) = record t { lanes = with_lane t.lanes a (t.lanes a ++ x ∷ []) }
+ideal_after_act r t (Takes a) = record t { lanes = with_lane t.lanes a (drop 1 (t.lanes a)) }
+ideal_after_act r t OwnUsed = with_ideal_part t r (record (t.parts r) { own = drop 1 (t.parts r).own })
+ideal_after_act r t (BitSet b v) = with_ideal_part t r (record (t.parts r) { bits = slice_set (t.parts r).bits b v })
 
 -- rank r stands at its next instruction
-abbrev pub ideal_moved_on : IdealTables → ℕ → IdealTables
-ideal_moved_on t r = with_ideal_part t r (record (t.parts r) { at = (t.parts r).at + 1 })
+abbrev pub ideal_past_instr : IdealTables → ℕ → IdealTables
+ideal_past_instr t r = with_ideal_part t r (record (t.parts r) { at = (t.parts r).at + 1 })
 
 -- the state after an instruction of rank r, where there is one
-abbrev pub after_step : Programs → IdealState → ℕ → Option Instr → IdealState
-after_step p s r None = s
-after_step p s r (Some i) =
-    let x = step_of p s.tables r i in
-    record { tables = ideal_moved_on (fold (ideal_done r) s.tables x.acts) r; circuit = s.circuit ++ x.letters }
+abbrev pub after_instr : Programs → IdealState → ℕ → Option Instr → IdealState
+after_instr p s r None = s
+after_instr p s r (Some i) =
+    let x = ideal_row_of p s.tables r i in
+    record { tables = ideal_past_instr (fold (ideal_after_act r) s.tables x.acts) r; circuit = s.circuit ++ x.letters }
 
 -- the state after the step of rank r
 abbrev pub ideal_next : Programs → IdealState → ℕ → IdealState
-ideal_next p s r = after_step p s r (ideal_current p s.tables r)
+ideal_next p s r = after_instr p s r (ideal_current p s.tables r)
 
 -- a rank before its first instruction
 abbrev pub ideal_part_at_start : RankProgram → IdealPart

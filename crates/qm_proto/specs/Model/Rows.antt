@@ -36,11 +36,6 @@ abbrev pub few_if : {A : Type 0} → Bool → Few A → Few A
 few_if true xs = xs
 few_if false xs = Empty
 
--- the list where the bit is one, else none of it
-abbrev pub list_if : {A : Type 0} → Bool → List A → List A
-list_if true xs = xs
-list_if false xs = []
-
 -- the act of a letter
 abbrev pub letter : Letter → Few Act
 letter l = One (Apply l)
@@ -67,11 +62,11 @@ letter_checks (Had w) = One (Fits w)
 letter_checks _ = Empty
 
 -- a parcel that carries the half f, and one that carries bits
-abbrev pub half : Wire → Parcel
-half f = record { wire = Some f; bits = None }
+abbrev pub half_parcel : Wire → Parcel
+half_parcel f = record { wire = Some f; bits = None }
 
-abbrev pub told : Bool → Parcel
-told m = record { wire = None; bits = Some (m, false) }
+abbrev pub bit_parcel : Bool → Parcel
+bit_parcel m = record { wire = None; bits = Some (m, false) }
 
 -- instruction number k of rank r
 abbrev pub instr_at : Programs → ℕ → ℕ → Option Instr
@@ -123,7 +118,7 @@ rows p t r (instr.When b g) =
     let l = gate_letter (wire_in t r) g in
     let set = bit_of t r b in
     row event.When Always (few_if set (letter_checks l)) (few_if set (letter l)) ∷ []
-rows p t r (instr.SendBit b to tag) = row event.SendBit Always Empty (One (Posts (lane r to kind.Bit tag) (told (bit_of t r b)))) ∷ []
+rows p t r (instr.SendBit b to tag) = row event.SendBit Always Empty (One (Posts (lane r to kind.Bit tag) (bit_parcel (bit_of t r b)))) ∷ []
 rows p t r (instr.RecvBit b from tag) =
     let a = lane from r kind.Bit tag in
     row event.RecvBit (Filled a) Empty (Two (Receives a) (BitSet b (first_bit (front t a)))) ∷ []
@@ -132,7 +127,7 @@ rows p t r (instr.CopyTo q to tag) =
     let e = near_last t r in
     let a = lane r to kind.Copy tag in
     let m = protocol_next t r in
-    row event.Pair (PairRoom a) Empty (Two (Twin to) (Posts a (half (far_made t r))))
+    row event.Pair (PairRoom a) Empty (Two (Twin to) (Posts a (half_parcel (far_made t r))))
     ∷ row event.Cross Always Empty (letter (Cx w e))
     ∷ row event.Post Always Empty (Three ProtocolUsed (NearOut m) (Fills a (m, false)))
     ∷ []
@@ -147,7 +142,7 @@ rows p t r (instr.UndoTo q to tag) =
     let a = lane r to kind.Undo tag in
     let m = protocol_next t r in
     row event.Test (Engaged a) (Two (Equal w (source_wire p t to)) (Fits w)) (letter (Had w))
-    ∷ row event.Post Always Empty (Three ProtocolUsed (SlotOut q m) (Posts a (told m)))
+    ∷ row event.Post Always Empty (Three ProtocolUsed (SlotOut q m) (Posts a (bit_parcel m)))
     ∷ []
 rows p t r (instr.UndoFrom q from tag) =
     let a = lane from r kind.Undo tag in
@@ -159,7 +154,7 @@ rows p t r (instr.MoveTo q to tag) =
     let e = near_last t r in
     let a = lane r to kind.Move tag in
     let m = protocol_next t r in
-    row event.Pair (PairRoom a) Empty (Two (Twin to) (Posts a (half (far_made t r))))
+    row event.Pair (PairRoom a) Empty (Two (Twin to) (Posts a (half_parcel (far_made t r))))
     ∷ row event.Cross Always Empty (letter (Cx w e))
     ∷ row event.Had Always (One (Fits w)) (letter (Had w))
     ∷ row event.Near Always Empty (Three ProtocolUsed (NearOut m) (FirstKept m))
@@ -178,7 +173,7 @@ rows p t r (instr.ReachTo q to tag) =
     let a = lane r to kind.Reach tag in
     let back = lane to r kind.Back tag in
     let m = protocol_next t r in
-    row event.Pair (PairRoom a) Empty (Two (Twin to) (Posts a (half (far_made t r))))
+    row event.Pair (PairRoom a) Empty (Two (Twin to) (Posts a (half_parcel (far_made t r))))
     ∷ row event.Cross Always Empty (letter (Cx w e))
     ∷ row event.Post Always Empty (Three ProtocolUsed (NearOut m) (Fills a (m, false)))
     ∷ row event.Deliver (Filled back) Empty (One (Receives back))
@@ -194,5 +189,5 @@ rows p t r (instr.ReachFrom q from tag) =
     ∷ row event.FixX Always Empty (few_if (first_bit x) (letter (Flip f)))
     ∷ row event.Cross Always Empty (letter (Cx f (wire_in t r q)))
     ∷ row event.Had Always (One (Fits f)) (letter (Had f))
-    ∷ row event.Post Always Empty (Three ProtocolUsed (FarOut f m) (Posts back (told m)))
+    ∷ row event.Post Always Empty (Three ProtocolUsed (FarOut f m) (Posts back (bit_parcel m)))
     ∷ []

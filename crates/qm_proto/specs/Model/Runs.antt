@@ -15,7 +15,7 @@ use Rattle.qm_proto.specs.declared.Cause.TheVariants as cause
 use Rattle.qm_proto.specs.declared.Rule.{Rule}
 use Rattle.qm_proto.specs.declared.Rule.TheVariants.{Always, PairRoom, Engaged, Filled}
 use Rattle.qm_proto.specs.Model.State.{Part, Tables, State, with_part, front}
-use Rattle.qm_proto.specs.Model.Acts.{list_of, all_done, all_letters}
+use Rattle.qm_proto.specs.Model.Acts.{list_of, after_acts, acts_letters}
 use Rattle.qm_proto.specs.declared.Check.{Check}
 use Rattle.qm_proto.specs.declared.Check.TheVariants.{Possible, Zero, Equal, Fits}
 use Rattle.qm_proto.specs.declared.Row.{Row}
@@ -102,8 +102,8 @@ abbrev pub IsAllowed : Programs → State → ℕ → Type 0
 IsAllowed p s r = NoneFails s.circuit (row_checks (row_next p s.tables r))
 
 -- a rank's part after an event of an instruction that has n of them
-abbrev pub moved_on : ℕ → Part → Part
-moved_on n x = if nat_lt (x.stage + 1) n then record x { stage = x.stage + 1 } else record x { at = x.at + 1; stage = 0 }
+abbrev pub part_after_event : ℕ → Part → Part
+part_after_event n x = if nat_lt (x.stage + 1) n then record x { stage = x.stage + 1 } else record x { at = x.at + 1; stage = 0 }
 
 -- how many events an instruction has, where there is one
 abbrev pub events_at : Option Instr → ℕ
@@ -111,18 +111,18 @@ events_at None = 0
 events_at (Some i) = events_of i
 
 -- the tables after the acts of a line, with rank r past the event; its instruction has n of them
-abbrev pub row_done : ℕ → ℕ → Option Row → Tables → Tables
-row_done n r None t = t
-row_done n r (Some w) t = let u = all_done r (list_of w.acts) t in with_part u r (moved_on n (u.parts r))
+abbrev pub row_tables : ℕ → ℕ → Option Row → Tables → Tables
+row_tables n r None t = t
+row_tables n r (Some w) t = let u = after_acts r (list_of w.acts) t in with_part u r (part_after_event n (u.parts r))
 
 -- the letters that the acts of a line do
 abbrev pub row_letters : ℕ → Option Row → Tables → List Letter
 row_letters r None t = []
-row_letters r (Some w) t = all_letters r (list_of w.acts) t
+row_letters r (Some w) t = acts_letters r (list_of w.acts) t
 
 -- the tables after the next event of rank r
 abbrev pub next_tables : Programs → Tables → ℕ → Tables
-next_tables p t r = row_done (events_at (current p t r)) r (row_next p t r) t
+next_tables p t r = row_tables (events_at (current p t r)) r (row_next p t r) t
 
 -- the letters of the next event of rank r
 abbrev pub next_letters : Programs → Tables → ℕ → List Letter

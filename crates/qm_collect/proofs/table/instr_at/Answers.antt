@@ -6,7 +6,8 @@ use Rattle.qm_collect.proofs.table.instr_at.Goals as goal
 pub returns-in-None : goal.returns-in-None
 returns-in-None c =
     let none : [] ≡ (line_of c.args.which).own = c.in-None.ensures in
-    c.message.ensures ∙ sym (message_alone c.args.which c.args.rank c.args.ranks (c.if-rank-root.false ∙ c.root.ensures) c.args.j none)
+    c.message.ensures
+    ∙ sym (message_alone c.args.which c.args.rank c.args.ranks (c.if-rank-root.false ∙ c.root.ensures) c.args.j none)
 
 pub returns-else-j-eq0-2 : goal.returns-else-j-eq0-2
 returns-else-j-eq0-2 c =

@@ -26,9 +26,9 @@ pub loop-at-preserved : goal.loop-at-preserved
 loop-at-preserved c = record {
   within = grind arith;
   lines = omega (arith, c.in-Part.ensures.bytes);
-  few = rw c.in-Ok.ensures.items (one_more _ _ _ _ c.loop-at.invariant.few c.in-Part.ensures.bytes.0);
-  rising = rw c.in-Ok.ensures.items (SpansRise-more _ _ _ _ c.loop-at.invariant.rising (omega arith) (omega (arith, c.in-Part.ensures.bytes)));
-  ahead = rw c.in-Ok.ensures.items (Ahead-part _ _ _ _ _ _ c.loop-at.invariant.ahead c.loop-at-test.true c.in-Part.ensures.bytes.0 (rw (take_rest c.args.text.now c.loop-at.at) at c.in-Part.ensures.piece));
+  few = rw c.in_ok-push-in-Part.ensures.items (one_more _ _ _ _ c.loop-at.invariant.few c.in-Part.ensures.bytes.0);
+  rising = rw c.in_ok-push-in-Part.ensures.items (SpansRise-more _ _ _ _ c.loop-at.invariant.rising (omega arith) (omega (arith, c.in-Part.ensures.bytes)));
+  ahead = rw c.in_ok-push-in-Part.ensures.items (Ahead-part _ _ _ _ _ _ c.loop-at.invariant.ahead c.loop-at-test.true c.in-Part.ensures.bytes.0 (rw (take_rest c.args.text.now c.loop-at.at) at c.in-Part.ensures.piece));
 }
 
 pub returns-in-Bad : goal.returns-in-Bad

@@ -7,7 +7,9 @@ pub returns-in-Some : goal.returns-in-Some
 returns-in-Some c =
     let found = sym (ap option_copied c.in-Some.is) ∙ c.get.ensures.value in
     let parcels = shown_parcels c.self.inside.lanes c.args.self.now c.args.lane _ c.self.view_is found in
-    c.is_empty.ensures ∙ ap (λ n. nat_eq n 0) c.in-Some.queue.now.parcels.ok.0 ∙ sym (ap (λ xs. nat_eq (length xs) 0) parcels)
+    c.is_empty.ensures
+    ∙ ap (λ n. nat_eq n 0) c.in-Some.queue.now.parcels.ok.0
+    ∙ sym (ap (λ xs. nat_eq (length xs) 0) parcels)
 
 pub returns-in-None : goal.returns-in-None
 returns-in-None c =

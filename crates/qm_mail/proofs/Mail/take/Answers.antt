@@ -23,7 +23,8 @@ pub returns-clause-front : goal.returns-clause-front
 returns-clause-front c =
     let found = sym (ap option_copied_mut c.in-Some.is) ∙ c.get_mut.ensures.value in
     let parcels = shown_parcels c.self.inside.lanes c.args.self.now c.args.lane _ c.self.view_is found in
-    ap (λ xs. slice_get xs 0) parcels ∙ ap (λ xs. slice_get xs 0) (c.in-Some-pop_front.ensures).items
+    ap (λ xs. slice_get xs 0) parcels
+    ∙ ap (λ xs. slice_get xs 0) (c.in-Some-pop_front.ensures).items
 
 pub returns-clause-rest : goal.returns-clause-rest
 returns-clause-rest c =

@@ -4,7 +4,9 @@ use Rattle.qm_owner.proofs.Placing.{gone, free_without}
 use Rattle.qm_owner.proofs.Places.shift.Goals as goal
 
 pub put-requires-clause-absent : goal.put-requires-clause-absent
-put-requires-clause-absent c = ap (λ (m : PlaceMap). place_of m.placed c.args.w) c.take.ensures.rest ∙ gone c.args.self.now.placed c.args.w
+put-requires-clause-absent c =
+    ap (λ (m : PlaceMap). place_of m.placed c.args.w) c.take.ensures.rest
+    ∙ gone c.args.self.now.placed c.args.w
 
 pub put-requires-clause-free : goal.put-requires-clause-free
 put-requires-clause-free c =

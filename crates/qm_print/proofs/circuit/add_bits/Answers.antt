@@ -1,4 +1,4 @@
-use Rattle.qm_bits.specs.Numbers.{number_of_bits}
+use Rattle.qm_instr.specs.Bits.{number_of_bits}
 use Rattle.qm_ideal.specs.OneCircuits.{bits_of}
 use Rattle.qm_print.specs.Bits.{bits_line}
 use Rattle.std.proofs.Common.{◌<◌, arith}

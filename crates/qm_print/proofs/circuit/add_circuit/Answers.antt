@@ -1,7 +1,7 @@
 use Rattle.std.proofs.Common.{◌∙◌, ap, ◌++◌, length, codes}
 use Rattle.qm_instr.specs.Programs.{Programs}
 use Rattle.qm_proto.specs.Model.Schedules.{protocol_total}
-use Rattle.qm_bits.specs.Numbers.{number_of_bits}
+use Rattle.qm_instr.specs.Bits.{number_of_bits}
 use Rattle.qm_ideal.specs.OneCircuits.{bits_of, slot_of}
 use Rattle.qm_print.specs.Bits.{bits_lines}
 use Rattle.qm_print.specs.CircuitText.{circuit_head, letters_head, letter_lines}

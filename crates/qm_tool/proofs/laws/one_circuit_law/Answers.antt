@@ -2,4 +2,4 @@ use Rattle.qm_tool.proofs.OneCircuits.{agrees}
 use Rattle.qm_tool.proofs.laws.one_circuit_law.Goals as goal
 
 pub returns : goal.returns
-returns c = λ play text bytes e. agrees text play bytes e
+returns c = agrees

@@ -1,18 +1,16 @@
-use Rattle.std.proofs.Common.{◌≡◌, sym, subst}
+use Rattle.std.proofs.Common.{Result, IfErr}
 use Rattle.qm_instr.specs.Programs.{Programs}
-use Rattle.qm_check.specs.declared.CheckError.{CheckError}
-use Rattle.qm_check.specs.declared.CheckError.TheVariants as error
-use Rattle.qm_check.specs.declared.Fault.{Fault}
-use Rattle.qm_check.specs.Checks.{IsFirstFault}
-use Rattle.qm_check.specs.Errors.{Explains}
-use Rattle.qm_tool.specs.Due.{Misread, Faulty}
+use Rattle.qm_tool.specs.declared.refusal.Refusal.{Refusal}
+use Rattle.qm_tool.specs.Reading.{IsUnready}
+use Rattle.qm_tool.proofs.AnswerLemmas.{at_exit}
+use Rattle.qm_tool.proofs.ReadingLaws.{misread-unready, faulty-unready}
 use Rattle.qm_tool.proofs.reading.read_ready.Goals as goal
 
-first_fault : (p : Programs) (e : CheckError) (f : Fault) → e ≡ error.Fault f → Explains p e → IsFirstFault p f
-first_fault p e f is x = subst (Explains p) is x
+pub returns-in_err-input-clause-err : goal.returns-in_err-input-clause-err
+returns-in_err-input-clause-err c =
+    at_exit (λ (r : Result Programs Refusal). IfErr r (IsUnready c.args.text.now)) _ _ c.from_residual.ensures.1 (misread-unready c.args.text.now _ c.in_err-input.ensures)
 
-pub returns-in-Some-clause-err : goal.returns-in-Some-clause-err
-returns-in-Some-clause-err c = Misread _ _ c.in-Err.ensures (sym c.in-Some.ensures)
-
-pub returns-in-Err-Fault-clause-err : goal.returns-in-Err-Fault-clause-err
-returns-in-Err-Fault-clause-err c = Faulty _ _ c.in-Ok.ensures (first_fault c.in-Ok.input _ _ c.in-Err-Fault.field-0-is c.in-Err-Fault.ensures.err)
+pub returns-in_err-check-clause-err : goal.returns-in_err-check-clause-err
+returns-in_err-check-clause-err c =
+    at_exit (λ (r : Result Programs Refusal). IfErr r (IsUnready c.args.text.now)) _ _ c.from_residual-in_err-check.ensures.1
+    (faulty-unready c.args.text.now c.in_ok-input.input _ c.in_ok-input.ensures c.in_err-check.ensures.err)

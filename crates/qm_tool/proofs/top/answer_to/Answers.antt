@@ -1,13 +1,15 @@
 use Rattle.std.proofs.Common.{sym, ◌∙◌}
-use Rattle.std.proofs.lemmas.Option.{none-some}
-use Rattle.qm_tool.proofs.AnswerLemmas.{making-answers}
+use Rattle.qm_tool.specs.Answers.{AnswersCall}
+use Rattle.qm_tool.proofs.AnswerLemmas.{at_exit, text-call, ungiven-call, usage-answer}
 use Rattle.qm_tool.proofs.top.answer_to.Goals as goal
 
-pub returns-in-Some-clause-due : goal.returns-in-Some-clause-due
-returns-in-Some-clause-due g c = making-answers _ _ _ c.in-Some.making _ (sym c.making_of.ensures.making ∙ c.in-Some.is) c.answer_making.ensures.due
+pub returns-in_default-clause-due : goal.returns-in_default-clause-due
+returns-in_default-clause-due g c = usage-answer _ _ _ (sym c.command_of.ensures.command ∙ c.in_default.is)
 
-pub returns-in-Some-clause-usage : goal.returns-in-Some-clause-usage
-returns-in-Some-clause-usage g c = λ none. absurd (none-some _ (sym none.makes_none ∙ sym c.making_of.ensures.making ∙ c.in-Some.is))
+pub returns-in_err-text-clause-due : goal.returns-in_err-text-clause-due
+returns-in_err-text-clause-due g c =
+    at_exit (AnswersCall _ _ _ _) _ _ c.from_residual.ensures.1 (ungiven-call _ c.in-Some.command _ _ _ _ (sym c.command_of.ensures.command ∙ c.in-Some.is) c.in_err-text.ensures.err)
 
-pub returns-in-None-clause-usage : goal.returns-in-None-clause-usage
-returns-in-None-clause-usage g c = λ none. c.answer_reading.ensures.usage none.reads_none
+pub returns-clause-due : goal.returns-clause-due
+returns-clause-due g c =
+    text-call _ c.in_ok-text.text.items c.in-Some.command _ _ _ _ (sym c.command_of.ensures.command ∙ c.in-Some.is) c.in_ok-text.ensures.came c.answer_text.ensures

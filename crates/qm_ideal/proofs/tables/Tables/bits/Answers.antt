@@ -1,5 +1,5 @@
 use Rattle.std.proofs.Common.{◌∙◌, ap}
-use Rattle.qm_bits.specs.Numbers.{number_of_bits}
+use Rattle.qm_instr.specs.Bits.{number_of_bits}
 use Rattle.qm_ideal.proofs.NumberLemmas.{bits_read}
 use Rattle.qm_ideal.proofs.tables.Tables.bits.Goals as goal
 

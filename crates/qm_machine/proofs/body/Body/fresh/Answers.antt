@@ -2,7 +2,7 @@ use Rattle.std.proofs.Common.{◌∙◌, Some, ap, refl, arith, length-set, appe
 use Rattle.std.proofs.lemmas.Bool.{and_from, lt-ltb}
 use Rattle.qm_denot.specs.declared.Wire.{Wire}
 use Rattle.qm_owner.specs.Places.{PlaceMap}
-use Rattle.qm_proto.specs.Model.Acts.{counted}
+use Rattle.qm_proto.specs.Model.Acts.{with_one_counted}
 use Rattle.qm_proto.specs.Model.State.{Part, with_slot}
 use Rattle.qm_machine.specs.Views.{facts, tables, slots_in, near_in, far_in}
 use Rattle.qm_machine.proofs.Leaving.{few_placed}
@@ -74,7 +74,7 @@ returns g c =
     let slots = ap (λ (m : PlaceMap). slots_in m.placed) put ∙ slots_filled es w r q c.requires.can.may.0.empty ∙ ap (λ (v : Wire). with_slot (slots_in es) r q (Some v)) is in
     let near = ap (λ (m : PlaceMap). near_in m.placed) put ∙ near_by_slot es w r q in
     let far = ap (λ (m : PlaceMap). far_in m.placed) put ∙ far_by_slot es w r q in
-    let parts = parts_changed ranks c.from.result r c.index_mut.result.now c.count_wire.new.self counted c.from.ensures c.requires.can.known c.index_mut.ensures.value
+    let parts = parts_changed ranks c.from.result r c.index_mut.result.now c.count_wire.new.self with_one_counted c.from.ensures c.requires.can.known c.index_mut.ensures.value
     c.count_wire.ensures in
     did_fresh _ _ r q c.requires.can (same_tables _ _ parts slots near far refl refl)
     (record {

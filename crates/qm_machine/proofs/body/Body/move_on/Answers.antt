@@ -1,6 +1,6 @@
 use Rattle.std.proofs.Common.{◌∙◌, ℕ, length, slice_set, ap, arith, length-set}
 use Rattle.qm_proto.specs.Model.State.{Part, with_at}
-use Rattle.qm_proto.specs.Model.Runs.{moved_on}
+use Rattle.qm_proto.specs.Model.Runs.{part_after_event}
 use Rattle.qm_machine.specs.Facts.{Facts}
 use Rattle.qm_machine.specs.Views.{facts, tables}
 use Rattle.qm_machine.proofs.RankTables.{part_read, parts_changed}
@@ -36,7 +36,7 @@ returns g c =
     let n = c.args.events in
     let i = c.from.result in
     let new = c.move_on.new.self in
-    let parts = parts_changed ranks i r c.index_mut.result.now new (moved_on n) c.from.ensures c.requires.known c.index_mut.ensures.value c.move_on.ensures in
+    let parts = parts_changed ranks i r c.index_mut.result.now new (part_after_event n) c.from.ensures c.requires.known c.index_mut.ensures.value c.move_on.ensures in
     let with : (ℕ → Part) → ℕ → Facts = λ x k. record f { tables = record t { parts = x }; ranks = k } in
     ap (λ (x : ℕ → Part). with x (length (slice_set ranks i new))) parts
-    ∙ ap (with (with_at t.parts r (moved_on n (t.parts r)))) (length-set ranks i new)
+    ∙ ap (with (with_at t.parts r (part_after_event n (t.parts r)))) (length-set ranks i new)

@@ -4,7 +4,7 @@ use Rattle.qm_denot.specs.Wires.{Wires, put}
 use Rattle.qm_buffers.specs.Halves.{buffer_at}
 use Rattle.qm_owner.specs.Places.{PlaceMap, place_of}
 use Rattle.qm_owner.proofs.Standing.{still_absent}
-use Rattle.qm_proto.specs.Model.Acts.{counted, more_at}
+use Rattle.qm_proto.specs.Model.Acts.{with_one_counted, more_at}
 use Rattle.qm_proto.specs.Model.State.{Part, with_at, near_made, far_made}
 use Rattle.qm_machine.specs.Views.{tables, slots_in, near_in, far_in}
 use Rattle.qm_machine.specs.Facts.{size_at}
@@ -121,7 +121,7 @@ returns g c =
     ∙ ap (λ (xs : ℕ → Wires). with_at xs to (put (xs to) f true)) far_mid
     ∙ ap (λ (w : Wire). with_at (far_in es) to (put (far_in es to) w true)) is in
     let held = second.0 ∙ ap (λ (h : ℕ → ℕ). more_at h to) first.0 in
-    let parts = parts_changed ranks c.from.result r c.index_mut.result.now c.count_wire.new.self counted c.from.ensures c.requires.can.known c.index_mut.ensures.value
+    let parts = parts_changed ranks c.from.result r c.index_mut.result.now c.count_wire.new.self with_one_counted c.from.ensures c.requires.can.known c.index_mut.ensures.value
     c.count_wire.ensures in
     let stands = c.do_letter.ensures.stands in
     let live = c.do_letter.ensures.live in

@@ -7,4 +7,4 @@ returns-else-rank-from g c =
     let unknown : ¬ (c.args.rank < length c.self.inside.ready.ranks) =
     λ known. let ranks = rw c.input.ensures.value at c.ranks.ensures.value in
     let no : ⊥ = omega (arith, c.if-rank-from.false, c.from.ensures, ranks, known) in no in
-    rw (← c.self.view_is) (sym (no_slot_elsewhere _ _ _ _ _ c.self.invariant c.args.rank c.args.q unknown))
+    rw (← c.self.view_is) (sym (no_slot_elsewhere c.self.invariant c.args.rank c.args.q unknown))

@@ -20,13 +20,13 @@ pub returns-in-None-clause-step : goal.returns-in-None-clause-step
 returns-in-None-clause-step g c =
     let running : c.self.inside.halted ≡ None = none_by c.self.inside.halted (sym c.is_some.ensures ∙ c.if-is_some.false) in
     let next = rw c.input-input.ensures.value at c.in-None.ensures in
-    rw (← c.self.view_is) (step_ended g.A.Amps.store _ _ _ c.self.inside.body _ c.self.invariant c.args.rank running (sym next))
+    rw (← c.self.view_is) (step_ended g.A.Amps.store c.self.inside.body c.self.invariant c.args.rank running (sym next))
 
 -- what the machine kept before the step, so that the laws of runs rule a halt out
 pub returns-in-None-lacks-clause-overflow : goal.returns-in-None-lacks-clause-overflow
 returns-in-None-lacks-clause-overflow g c =
     never_overflows g.A.Amps.store c.args.self.now c.go.new.self c.args.rank c.go.result c.go.ensures.step
-    (rw (← c.self.view_is) (keeps g.A.Amps.store _ _ _ c.self.inside.body _ c.self.invariant))
+    (rw (← c.self.view_is) (keeps g.A.Amps.store c.self.inside.body c.self.invariant))
 
 pub returns-in-None-lacks-clause-impossible : goal.returns-in-None-lacks-clause-impossible
 returns-in-None-lacks-clause-impossible g c =
@@ -35,12 +35,12 @@ returns-in-None-lacks-clause-impossible g c =
 pub returns-in-None-lacks-clause-stuck : goal.returns-in-None-lacks-clause-stuck
 returns-in-None-lacks-clause-stuck g c =
     never_stuck g.A.Amps.store c.args.self.now c.go.new.self c.args.rank c.go.result c.go.ensures.step
-    (rw (← c.self.view_is) (keeps g.A.Amps.store _ _ _ c.self.inside.body _ c.self.invariant))
+    (rw (← c.self.view_is) (keeps g.A.Amps.store c.self.inside.body c.self.invariant))
 
 pub returns-in-Some-lacks-clause-overflow : goal.returns-in-Some-lacks-clause-overflow
 returns-in-Some-lacks-clause-overflow g c =
     never_overflows g.A.Amps.store c.args.self.now c.wait.new.self c.args.rank c.wait.result c.wait.ensures.step
-    (rw (← c.self.view_is) (keeps g.A.Amps.store _ _ _ c.self.inside.body _ c.self.invariant))
+    (rw (← c.self.view_is) (keeps g.A.Amps.store c.self.inside.body c.self.invariant))
 
 pub returns-in-Some-lacks-clause-impossible : goal.returns-in-Some-lacks-clause-impossible
 returns-in-Some-lacks-clause-impossible g c =
@@ -49,4 +49,4 @@ returns-in-Some-lacks-clause-impossible g c =
 pub returns-in-Some-lacks-clause-stuck : goal.returns-in-Some-lacks-clause-stuck
 returns-in-Some-lacks-clause-stuck g c =
     never_stuck g.A.Amps.store c.args.self.now c.wait.new.self c.args.rank c.wait.result c.wait.ensures.step
-    (rw (← c.self.view_is) (keeps g.A.Amps.store _ _ _ c.self.inside.body _ c.self.invariant))
+    (rw (← c.self.view_is) (keeps g.A.Amps.store c.self.inside.body c.self.invariant))

@@ -1,0 +1,9 @@
+pub mod Totals
+pub mod Longest
+pub mod Line
+pub mod Journal
+pub mod Turns
+pub mod Making
+pub mod Closing
+pub mod Times
+pub mod Places

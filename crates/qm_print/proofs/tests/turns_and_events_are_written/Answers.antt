@@ -1,5 +1,0 @@
-use Rattle.qm_proto.proofs.WorkedRuns as runs
-use Rattle.qm_print.proofs.tests.turns_and_events_are_written.Goals as goal
-
-pub put_trace-requires : goal.put_trace-requires
-put_trace-requires g c = rw c.in_ok-ready.ensures runs.worked_run.copy_by_one.complete.legal

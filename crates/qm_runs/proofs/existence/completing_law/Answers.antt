@@ -1,5 +1,0 @@
-use Rattle.qm_runs.proofs.Endings.Completing as completing
-use Rattle.qm_runs.proofs.existence.completing_law.Goals as goal
-
-pub returns : goal.returns
-returns c = completing.completing_law

@@ -1,5 +1,0 @@
-use Rattle.qm_runs.proofs.Endings.FirstRuns as first_runs
-use Rattle.qm_runs.proofs.existence.first_law.Goals as goal
-
-pub returns : goal.returns
-returns c = first_runs.first_law

@@ -1,5 +1,0 @@
-use Rattle.qm_runs.proofs.Endings.IdealRuns as ideal_runs
-use Rattle.qm_runs.proofs.existence.one_run_law.Goals as goal
-
-pub returns : goal.returns
-returns c = ideal_runs.one_run_law

@@ -1,5 +1,0 @@
-use Rattle.qm_runs.proofs.Stuck.Emptied as emptied
-use Rattle.qm_runs.proofs.meeting.lanes_empty_law.Goals as goal
-
-pub returns : goal.returns
-returns c = emptied.lanes_empty_law

@@ -1,5 +1,0 @@
-use Rattle.qm_runs.proofs.Stuck.Rendezvous as rendezvous
-use Rattle.qm_runs.proofs.meeting.never_stuck_law.Goals as goal
-
-pub returns : goal.returns
-returns c = rendezvous.never_stuck_law

@@ -1,5 +1,0 @@
-use Rattle.qm_runs.proofs.Stuck.Meetings as meetings
-use Rattle.qm_runs.proofs.meeting.rendezvous_law.Goals as goal
-
-pub returns : goal.returns
-returns c = meetings.rendezvous_law

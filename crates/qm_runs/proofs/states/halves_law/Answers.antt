@@ -1,5 +1,0 @@
-use Rattle.qm_runs.proofs.Safety.Halves as halves
-use Rattle.qm_runs.proofs.states.halves_law.Goals as goal
-
-pub returns : goal.returns
-returns c = halves.halves_law

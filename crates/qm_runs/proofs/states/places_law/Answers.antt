@@ -1,5 +1,0 @@
-use Rattle.qm_runs.proofs.Safety.Blanks as blanks
-use Rattle.qm_runs.proofs.states.places_law.Goals as goal
-
-pub returns : goal.returns
-returns c = blanks.places_law

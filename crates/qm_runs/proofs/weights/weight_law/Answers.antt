@@ -1,5 +1,0 @@
-use Rattle.qm_runs.proofs.Weighing.Weights as weights
-use Rattle.qm_runs.proofs.weights.weight_law.Goals as goal
-
-pub returns : goal.returns
-returns c = weights.weight_law

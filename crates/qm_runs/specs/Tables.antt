@@ -1,5 +1,0 @@
--- The tables of a run at all times
-pub mod Lines
-pub mod Totals
-pub mod Well
-pub mod Rooms

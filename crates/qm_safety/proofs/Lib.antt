@@ -1,0 +1,3 @@
+pub mod Tables
+mod Safety
+pub mod Laws

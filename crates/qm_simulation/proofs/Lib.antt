@@ -1,0 +1,5 @@
+mod Following
+mod WorkedProgress
+mod Weighing
+mod Headline
+pub mod Laws

@@ -1,0 +1,4 @@
+pub mod Following
+pub mod WorkedProgress
+pub mod Weighing
+pub mod Headline

@@ -1,0 +1,185 @@
+//! Tests of qm_ideal: one circuits that were worked out by hand.
+use crate::fixtures::{qubits_of, ready_of};
+use qm_denot::{Letter, Wire};
+use qm_ideal::{MonoError, mono, rendezvous};
+use std::test::Fail;
+
+/// The wire of rank 0 with this number, and the first one of rank 1.
+const W0: Wire = Wire {
+    rank: 0,
+    made: 0,
+    near: false,
+};
+
+const W1: Wire = Wire {
+    rank: 0,
+    made: 1,
+    near: false,
+};
+
+const W2: Wire = Wire {
+    rank: 0,
+    made: 2,
+    near: false,
+};
+
+const W3: Wire = Wire {
+    rank: 0,
+    made: 3,
+    near: false,
+};
+
+const V0: Wire = Wire {
+    rank: 1,
+    made: 0,
+    near: false,
+};
+
+/// A text, and its one circuit.
+#[derive(Clone, Copy)]
+struct Row {
+    text: &'static str,
+    letters: &'static [Letter],
+    /// The full slots.
+    slots: &'static [(u16, u8, Wire)],
+    /// The bits of ranks 0 and 1.
+    bits: [u32; 2],
+    width: u32,
+}
+
+/// Both copies are live before the first is taken back.
+const LENT_TWICE: Row = Row {
+    text: "qmpi 1 ranks 2 qubits 2 buffer 1 \
+        rank 0 alloc 0 h 0 copyto 0 1 1 copyto 0 1 1 undofrom 0 1 2 undofrom 0 1 2 end \
+        rank 1 copyfrom 0 0 1 copyfrom 1 0 1 undoto 0 0 2 undoto 1 0 2 end protocol 0 b10 protocol 1 b11",
+    letters: &[
+        Letter::Had { w: W0 },
+        Letter::Cx { c: W0, t: W1 },
+        Letter::Cx { c: W0, t: W2 },
+        Letter::Cx { c: W0, t: W1 },
+        Letter::Take { w: W1, m: false },
+        Letter::Cx { c: W0, t: W2 },
+        Letter::Take { w: W2, m: false },
+    ],
+    slots: &[(0, 0, W0)],
+    bits: [0, 0],
+    width: 3,
+};
+
+/// The second copy has the room of the first, which was taken back before.
+const LENT_AGAIN: Row = Row {
+    text: "qmpi 1 ranks 2 qubits 1 buffer 1 \
+        rank 0 alloc 0 h 0 copyto 0 1 1 undofrom 0 1 2 copyto 0 1 1 undofrom 0 1 2 end \
+        rank 1 copyfrom 0 0 1 undoto 0 0 2 copyfrom 0 0 1 undoto 0 0 2 end protocol 0 b10 protocol 1 b11",
+    letters: &[
+        Letter::Had { w: W0 },
+        Letter::Cx { c: W0, t: W1 },
+        Letter::Cx { c: W0, t: W1 },
+        Letter::Take { w: W1, m: false },
+        Letter::Cx { c: W0, t: W2 },
+        Letter::Cx { c: W0, t: W2 },
+        Letter::Take { w: W2, m: false },
+    ],
+    slots: &[(0, 0, W0)],
+    bits: [0, 0],
+    width: 2,
+};
+
+/// The run steps rank 0 to its end first, so all copies are live before the first is given up.
+const THREE_COPIES: Row = Row {
+    text: "qmpi 1 ranks 2 qubits 1 buffer 1 rank 0 alloc 0 for i in 0..3 { copyto 0 1 1 } end \
+        rank 1 for i in 0..3 { copyfrom 0 0 1 free 0 } end protocol 0 b000",
+    letters: &[
+        Letter::Cx { c: W0, t: W1 },
+        Letter::Cx { c: W0, t: W2 },
+        Letter::Cx { c: W0, t: W3 },
+        Letter::Take { w: W1, m: false },
+        Letter::Take { w: W2, m: false },
+        Letter::Take { w: W3, m: false },
+    ],
+    slots: &[(0, 0, W0)],
+    bits: [0, 0],
+    width: 4,
+};
+
+/// A moved qubit takes a new name, and no more room.
+const MOVED: Row = Row {
+    text: "qmpi 1 ranks 2 qubits 1 buffer 1 rank 0 alloc 0 h 0 moveto 0 1 1 end rank 1 movefrom 0 0 1 end protocol 0 b11",
+    letters: &[Letter::Had { w: W0 }, Letter::Rename { a: W0, b: W1 }],
+    slots: &[(1, 0, W1)],
+    bits: [0, 0],
+    width: 1,
+};
+
+/// Rank 0 waits with its target until rank 1 stands where it reaches for it.
+const REACHED: Row = Row {
+    text: "qmpi 1 ranks 2 qubits 1 buffer 1 rank 0 alloc 0 reachfrom 0 1 9 end \
+        rank 1 alloc 0 h 0 reachto 0 0 9 end protocol 0 b1 protocol 1 b0",
+    letters: &[Letter::Had { w: V0 }, Letter::Cx { c: V0, t: W0 }],
+    slots: &[(0, 0, W0), (1, 0, V0)],
+    bits: [0, 0],
+    width: 2,
+};
+
+/// A bit that was measured is sent, and decides.
+const SENT: Row = Row {
+    text: "qmpi 1 ranks 2 qubits 1 buffer 1 rank 0 alloc 0 h 0 measure 0 2 sendbit 2 1 2 end \
+        rank 1 recvbit 5 0 2 alloc 0 when 5 x 0 end own 0 b1",
+    letters: &[
+        Letter::Had { w: W0 },
+        Letter::Keep { w: W0, m: true },
+        Letter::Flip { w: V0 },
+    ],
+    slots: &[(0, 0, W0), (1, 0, V0)],
+    bits: [0x4, 0x20],
+    width: 2,
+};
+
+/// All of these.
+fn rows() -> [Row; 6] {
+    [LENT_TWICE, LENT_AGAIN, THREE_COPIES, MOVED, REACHED, SENT]
+}
+
+#[test]
+fn programs_have_these_circuits(rt: HostRuntime) -> Result<(), Fail> {
+    let alloc = rt.alloc();
+    for row in rows() {
+        let ready = ready_of(&rt, alloc, row.text)?;
+        assert!(rt;
+            ready.input().ranks() == 2 && rendezvous(alloc, &ready)?,
+            "at {}",
+            row.text
+        );
+        let circuit = mono(alloc, &ready)?;
+        let qubits = qubits_of(alloc, |rank, slot| circuit.slot(rank, slot))?;
+        assert!(rt;
+            circuit.letters() == row.letters && qubits.len() == row.slots.len(),
+            "at {}",
+            row.text
+        );
+        for (rank, slot, wire) in row.slots {
+            assert_eq!(rt; circuit.slot(*rank, *slot), Some(*wire), "at {}", row.text);
+        }
+        assert_eq!(rt;
+            ([circuit.bits(0), circuit.bits(1)], circuit.width()),
+            (row.bits, row.width),
+            "at {}",
+            row.text
+        );
+    }
+    Ok(())
+}
+
+/// Each rank first receives what the other sends afterwards.
+#[test]
+fn ranks_that_wait_for_each_other_have_no_circuit(rt: HostRuntime) -> Result<(), Fail> {
+    let text = "qmpi 1 ranks 2 qubits 1 buffer 1 rank 0 copyfrom 0 1 1 copyto 0 1 1 end \
+        rank 1 copyfrom 0 0 1 copyto 0 0 1 end protocol 0 b0 protocol 1 b0";
+    let ready = ready_of(&rt, rt.alloc(), text)?;
+    assert_eq!(rt;
+        mono(rt.alloc(), &ready).err(),
+        Some(MonoError::Waits { ranks: 3 })
+    );
+    assert_eq!(rt; rendezvous(rt.alloc(), &ready)?, false);
+    Ok(())
+}

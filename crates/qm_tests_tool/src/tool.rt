@@ -1,0 +1,15 @@
+//! Whole commands over sources and sinks in memory.
+
+mod calls;
+mod ends;
+mod halves;
+mod made;
+mod orders;
+mod pages;
+mod programs;
+mod refusals;
+mod runs;
+mod states;
+mod texts;
+mod watched;
+mod words;
