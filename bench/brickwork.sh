@@ -1,18 +1,23 @@
 #!/usr/bin/env bash
-# usage: brickwork.sh [PROGRAM]; without it the program that `rt ci` has left. `rounds` in the environment says how often each is run.
-# Times the letters of brickwork circuits under `plain` beside brickwork.c, which does the same letters in C: nanoseconds for one letter
-# and one amplitude at 10 to 18 live wires, and the program's ratio to the C loop. All take turns on one processor, and the least of
+# usage: brickwork.sh [PROGRAM]; without it the program that `rt ci` has left. `rounds` in the environment says how often each is run,
+# `layers` how many layers there are, and `wires` at how many live wires.
+# Times the letters of brickwork circuits under `plain` beside C programs that do the same letters: over the same 128-bit numbers
+# (brickwork.c at -O2, also with each sum tested by itself), and over exact 32-bit numbers and complex doubles (brickwork_small.c at -O3):
+# nanoseconds for one letter and one amplitude, and the program's ratio to the loop over 128 bits and to that over doubles. A dash stands
+# where the numbers leave 32 bits: those of 5 layers don't, and those of 20 layers do. All take turns on one processor, and the least of
 # their processor times counts, so that it matters little what else the machine does.
 # A layer is a Hadamard and a T on every qubit, then controlled-nots between neighbours, shifted by one in every other layer.
 # Where one rank has too few qubits there are two, and the first waits for a bit of the second: so all wires live before any letter.
+# 20 wires and two buffers are more than a text of version 1 may have, so that text is one of version 2.
 # At the end all qubits are measured as zero, so that one amplitude is printed. The time of a program of one layer is taken off that of
 # all layers. Wants gcc, and a built program: run `rt ci` first.
-# Before that, both do the letters at 6 wires, and must come to the same scale.
+# Before that, all exact ones do the letters at 6 wires, and must come to the same scale.
 set -euo pipefail
 top=$(cd "$(dirname "${BASH_SOURCE[0]}")/.." && pwd)
 program=${1:-$top/crates/qmpi/out/qmpi}
 rounds=${rounds:-9}
-layers=20
+layers=${layers:-20}
+wires=${wires:-10 12 14 16 18 20}
 pinned=()
 if command -v taskset > /dev/null; then pinned=(taskset -c 0); fi
 [ -x "$program" ] || { echo "no program at $program: run 'rt ci' first" >&2; exit 1; }
@@ -21,11 +26,13 @@ trap 'rm -r "$work"' EXIT
 exec 3>&2
 gcc -O2 -o "$work/c" "$top/bench/brickwork.c"
 gcc -O2 -DEACH_SUM -o "$work/each" "$top/bench/brickwork.c"
+gcc -O3 -DNARROW -o "$work/narrow" "$top/bench/brickwork_small.c"
+gcc -O3 -o "$work/double" "$top/bench/brickwork_small.c"
 
 brickwork() {  # a program of so many qubits and layers
   awk -v n="$1" -v layers="$2" 'BEGIN {
     ranks = n > 16 ? 2 : 1; q = n / ranks
-    printf "qmpi 1\nranks %d\nqubits %d\nbuffer 1\n", ranks, q
+    printf (n > 18 ? "qmpi 2\nranks %d\nqubits %d %d\nbuffer 1 1\n" : "qmpi 1\nranks %d\nqubits %d\nbuffer 1\n"), ranks, q, q
     for (r = 0; r < ranks; r++) {
       printf "rank %d\n", r
       for (i = 0; i < q; i++) printf "  alloc %d\n", i
@@ -70,7 +77,7 @@ compare() {  # the scales to which qmpi and the C programs come, where nothing i
   local which ours scale
   brickwork "$qubits" "$layers" | grep -vE '^( *measure|own) ' > "$work/unmeasured"
   ours=$("$program" plain < "$work/unmeasured" | awk '$1 == "scale" { print $2 }') || { echo "ours failed at $qubits wires" >&2; exit 1; }
-  for which in c each; do
+  for which in c each narrow; do
     scale=$("$work/$which" "$qubits" "$layers" | awk '$1 == "scale" { print $2 }') || { echo "$which failed at $qubits wires" >&2; exit 1; }
     if [ -z "$scale" ] || [ "$scale" != "$ours" ]; then
       echo "at $qubits wires $which comes to scale '$scale', and qmpi to '$ours'" >&2
@@ -81,21 +88,27 @@ compare() {  # the scales to which qmpi and the C programs come, where nothing i
 
 qubits=6
 compare
-echo 'wires   C   C, each sum tested   qmpi   ratio'
-for qubits in 10 12 14 16 18; do
+echo 'wires   C, 128 bits   each sum tested   C, 32 bits   C, double   qmpi   to 128 bits   to double'
+for qubits in $wires; do
   declare -A least=()
   runs=$((qubits < 16 ? 2 ** (16 - qubits) : 1))
   brickwork "$qubits" "$layers" > "$work/text$layers"
   brickwork "$qubits" 1 > "$work/text1"
+  programs=(c ours each double)
+  if "$work/narrow" "$qubits" "$layers" > /dev/null; then programs+=(narrow); fi
   for ((round = 0; round < rounds; round++)); do
-    for which in c ours each; do
+    for which in "${programs[@]}"; do
       timed "$which" "$layers"
       timed "$which" 1
     done
   done
   count=$(($(letters "$work/text$layers") - $(letters "$work/text1")))
-  awk -v n="$qubits" -v count="$count" -v c="$(spent c)" -v each="$(spent each)" -v ours="$(spent ours)" -v runs="$runs" 'BEGIN {
+  narrow=-
+  if [ -n "${least[narrow 1]:-}" ]; then narrow=$(spent narrow); fi
+  awk -v n="$qubits" -v count="$count" -v c="$(spent c)" -v each="$(spent each)" -v ours="$(spent ours)" -v narrow="$narrow" \
+    -v double="$(spent double)" -v runs="$runs" 'BEGIN {
     unit = count * 2 ^ n * runs / 1e6
-    printf "%5d %5.2f %12.2f %14.2f %7.2f\n", n, c / unit, each / unit, ours / unit, ours / c
+    slim = narrow == "-" ? "-" : sprintf("%.2f", narrow / unit)
+    printf "%5d %10.2f %15.2f %13s %11.2f %8.2f %10.2f %11.2f\n", n, c / unit, each / unit, slim, double / unit, ours / unit, ours / c, ours / double
   }'
 done

@@ -57,6 +57,9 @@ echo "qmpi 1 ranks 1 qubits 12 buffer 1 rank 0 for i in 0..12 { alloc i h i } en
 for text in copy copies broadcast stopped refused twelve ring; do
   for words in plain 'sched 3' 'trace 3' mono 'mono amps' check; do try_memory "$words" "$text"; done
 done
+# threads may take their turns in any order, so the turns are listed where there is one order alone
+for text in copy copies broadcast stopped refused; do try_memory run "$text"; done
+try_memory 'run turns' copy
 for words in 'gen ring 1000 7' 'gen ghz 10 3' 'job ring 1000 7' 'job parity 100 5' 'job ghz 10 3'; do try_memory "$words" /dev/null; done
 
 try_end() {  # a name, the status that is due, what is due on standard output, and the status and what was written there

@@ -1,9 +1,9 @@
 -- The first fault of programs is one fault
-use Rattle.std.proofs.Common.{◌≡◌, ℕ, ◌<◌, ◌≤◌, Bool, true, false, leb, refl, sym, ap, ◌∙◌, inl, inr, ◌⊎◌, arith}
+use Rattle.std.proofs.Common.{◌≡◌, ℕ, ◌<◌, Bool, true, false, refl, sym, ap, ◌∙◌, inl, inr, arith}
 use Rattle.std.specs.declared.cmp.Ordering.{Ordering}
 use Rattle.std.specs.declared.cmp.Ordering.TheVariants.{Less, Equal, Greater}
-use Rattle.std.specs.Ordering.{ordering_reverse}
-use Rattle.std.proofs.lemmas.Bool.Decides.{leb_tells}
+use Rattle.std.specs.Ordering.{nat_cmp, ordering_reverse, MatchOrdering}
+use Rattle.std.proofs.lemmas.Cmp.{ranked}
 use Rattle.std.proofs.lemmas.Option.{same_Some, none-some}
 use Rattle.qm_instr.specs.declared.Lane.{Lane}
 use Rattle.qm_instr.specs.Lanes.{lane_order}
@@ -18,29 +18,16 @@ data Compared (a b : Site) : Type 0 where
   Same : a ≡ b → Compared a b
   After : IsBefore b a → Compared a b
 
-data ComparedNumbers (m n : ℕ) : Type 0 where
-  Lower : m < n → ComparedNumbers m n
-  Alike : m ≡ n → ComparedNumbers m n
-  Higher : n < m → ComparedNumbers m n
-
-numbers : (m n : ℕ) → ComparedNumbers m n
-numbers m n = by_tests (leb_tells m n) (leb_tells n m)
-  where
-    by_tests : ((leb m n ≡ true) × (m ≤ n)) ⊎ ((leb m n ≡ false) × (n < m))
-        → ((leb n m ≡ true) × (n ≤ m)) ⊎ ((leb n m ≡ false) × (m < n)) → ComparedNumbers m n
-    by_tests (inr p) q = Higher p.1
-    by_tests (inl p) (inr q) = Lower q.1
-    by_tests (inl p) (inl q) = Alike (omega (arith, p.1, q.1))
-
 steps : (r k s j : ℕ) → Compared (AtInstr r k) (AtInstr s j)
-steps r k s j = by_ranks (numbers r s) (numbers k j)
+steps r k s j = by_order (nat_cmp r s) (nat_cmp k j) (ranked r s (nat_cmp r s) refl) (ranked k j (nat_cmp k j) refl)
   where
-    by_ranks : ComparedNumbers r s → ComparedNumbers k j → Compared (AtInstr r k) (AtInstr s j)
-    by_ranks (Lower h) c = Before (inr (inl h))
-    by_ranks (Higher h) c = After (inr (inl h))
-    by_ranks (Alike e) (Lower h) = Before (inr (inr (e, h)))
-    by_ranks (Alike e) (Higher h) = After (inr (inr (sym e, h)))
-    by_ranks (Alike e) (Alike f) = Same (ap (λ x. AtInstr x k) e ∙ ap (AtInstr s) f)
+    by_order : (c d : Ordering) → MatchOrdering c (r < s) (r ≡ s) (s < r) → MatchOrdering d (k < j) (k ≡ j) (j < k)
+        → Compared (AtInstr r k) (AtInstr s j)
+    by_order Less d h g = Before (inr (inl h))
+    by_order Greater d h g = After (inr (inl h))
+    by_order Equal Less h g = Before (inr (inr (h, g)))
+    by_order Equal Greater h g = After (inr (inr (sym h, g)))
+    by_order Equal Equal h g = Same (ap (λ x. AtInstr x k) h ∙ ap (AtInstr s) g)
 
 lanes : (a b : Lane) → Compared (OnLane a) (OnLane b)
 lanes a b = by_order (lane_order a b) refl
@@ -51,33 +38,27 @@ lanes a b = by_order (lane_order a b) refl
     by_order Greater e = After (inr (lane_order-total.antisymm b a ∙ ap ordering_reverse e))
 
 tapes : (r s : ℕ) (own other : Bool) → Compared (OnTape r own) (OnTape s other)
-tapes r s own other = by_ranks (numbers r s) own other
+tapes r s own other = by_order (nat_cmp r s) (ranked r s (nat_cmp r s) refl) own other
   where
-    by_ranks : ComparedNumbers r s → (x y : Bool) → Compared (OnTape r x) (OnTape s y)
-    by_ranks (Lower h) x y = Before (inr (inl h))
-    by_ranks (Higher h) x y = After (inr (inl h))
-    by_ranks (Alike e) true true = Same (ap (λ n. OnTape n true) e)
-    by_ranks (Alike e) false false = Same (ap (λ n. OnTape n false) e)
-    by_ranks (Alike e) true false = Before (inr (inr (e, refl, refl)))
-    by_ranks (Alike e) false true = After (inr (inr (sym e, refl, refl)))
+    by_order : (c : Ordering) → MatchOrdering c (r < s) (r ≡ s) (s < r) → (x y : Bool) → Compared (OnTape r x) (OnTape s y)
+    by_order Less h x y = Before (inr (inl h))
+    by_order Greater h x y = After (inr (inl h))
+    by_order Equal h true true = Same (ap (λ n. OnTape n true) h)
+    by_order Equal h false false = Same (ap (λ n. OnTape n false) h)
+    by_order Equal h true false = Before (inr (inr (h, refl, refl)))
+    by_order Equal h false true = After (inr (inr (sym h, refl, refl)))
 
 compared : (a b : Site) → Compared a b
 compared AllRanks AllRanks = Same refl
-compared AllRanks (AtInstr s j) = Before (inl (omega arith))
-compared AllRanks (OnLane b) = Before (inl (omega arith))
-compared AllRanks (OnTape s other) = Before (inl (omega arith))
-compared (AtInstr r k) AllRanks = After (inl (omega arith))
 compared (AtInstr r k) (AtInstr s j) = steps r k s j
-compared (AtInstr r k) (OnLane b) = Before (inl (omega arith))
-compared (AtInstr r k) (OnTape s other) = Before (inl (omega arith))
-compared (OnLane a) AllRanks = After (inl (omega arith))
-compared (OnLane a) (AtInstr s j) = After (inl (omega arith))
 compared (OnLane a) (OnLane b) = lanes a b
-compared (OnLane a) (OnTape s other) = Before (inl (omega arith))
-compared (OnTape r own) AllRanks = After (inl (omega arith))
-compared (OnTape r own) (AtInstr s j) = After (inl (omega arith))
-compared (OnTape r own) (OnLane b) = After (inl (omega arith))
 compared (OnTape r own) (OnTape s other) = tapes r s own other
+compared AllRanks b = Before (inl (omega arith))
+compared a AllRanks = After (inl (omega arith))
+compared (AtInstr r k) b = Before (inl (omega arith))
+compared a (AtInstr s j) = After (inl (omega arith))
+compared (OnLane a) (OnTape s other) = Before (inl (omega arith))
+compared (OnTape r own) (OnLane b) = After (inl (omega arith))
 
 pub first_fault-one : (p : Programs) (f g : Fault) → IsFirstFault p f → IsFirstFault p g → f ≡ g
 first_fault-one p f g h k = by_sites (compared h.0 k.0)

@@ -13,6 +13,7 @@ use Rattle.std.proofs.lemmas.Map.{NonePasses, lookup-none}
 use Rattle.std.proofs.lemmas.Map.Entries.{none_below_head, none_past_head}
 use Rattle.std.proofs.lemmas.Map.Keys.{sorted_head, sorted_tail, IsDistinct-from_sorted}
 use Rattle.std.proofs.lemmas.Cmp.{tied_itself}
+use Rattle.std.proofs.lemmas.Bool.{cond_both}
 use Rattle.std.proofs.lemmas.Bool.Decides.{nat_tests}
 use Rattle.std.proofs.lemmas.List.Elements.{All-nil, All-cons}
 use Rattle.qm_instr.specs.declared.Lane.{Lane}
@@ -140,48 +141,40 @@ lane_fault-first p m o sorted counted found =
 abbrev lanes_of : List LaneCount → List Lane
 lanes_of cs = map (λ c. c.lane) cs
 
--- an entry in a list of counts, if it has sends
-abbrev listed_with : Bool → Lane × Tally → List LaneCount → List LaneCount
-listed_with b e cs = cond b (record { lane = e.0; sends = e.1.sends } ∷ cs) cs
+-- an entry as a count, and the list with an entry in front, if it has sends
+abbrev count_of : Lane × Tally → LaneCount
+count_of e = record { lane = e.0; sends = e.1.sends }
 
-all_listed_with : (P : Lane → Type 0) (b : Bool) (e : Lane × Tally) (cs : List LaneCount) → P e.0
-    → AllByRecursion P (lanes_of cs) → AllByRecursion P (lanes_of (listed_with b e cs))
-all_listed_with P true e cs here rest = (here, rest)
-all_listed_with P false e cs here rest = rest
+abbrev listed_with : Bool → Lane × Tally → List LaneCount → List LaneCount
+listed_with b e cs = cond b (count_of e ∷ cs) cs
 
 -- what holds of each key holds of each lane that is listed
 all_listed : (P : Lane → Type 0) (es : List (Lane × Tally)) → AllByRecursion P (keys_of es)
     → AllByRecursion P (lanes_of (sends_listed es))
 all_listed P [] h = tt
 all_listed P (e ∷ es) h =
-    all_listed_with P (nat_lt 0 e.1.sends) e (sends_listed es) h.0 (all_listed P es h.1)
-
-rising_with : (b : Bool) (e : Lane × Tally) (cs : List LaneCount)
-    → AllByRecursion (λ y. code_order e.0 y ≡ Less) (lanes_of cs)
-    → IsStrictlySortedBy code_order (lanes_of cs)
-    → IsStrictlySortedBy code_order (lanes_of (listed_with b e cs))
-unfolding IsStrictlySortedBy
-rising_with true e cs below rest = (below, rest)
-rising_with false e cs below rest = rest
+    let cs = sends_listed es in
+    let rest = all_listed P es h.1 in
+    cond_both (nat_lt 0 e.1.sends) (count_of e ∷ cs) cs (λ xs. AllByRecursion P (lanes_of xs)) (λ _. (h.0, rest)) (λ _. rest)
 
 -- the lanes listed rise
 rising-listed : (es : List (Lane × Tally)) → IsStrictlySortedBy code_order (keys_of es)
     → IsStrictlySortedBy code_order (lanes_of (sends_listed es))
+unfolding IsStrictlySortedBy
 rising-listed [] sorted = sorted
 rising-listed (e ∷ es) sorted =
-    rising_with (nat_lt 0 e.1.sends) e (sends_listed es) (all_listed (λ y. code_order e.0 y ≡ Less) es (sorted_head code_order e.0 (keys_of es) sorted)) (rising-listed es (sorted_tail code_order e.0 (keys_of es) sorted))
-
-some_with : (b : Bool) (e : Lane × Tally) (cs : List LaneCount) → nat_lt 0 e.1.sends ≡ b
-    → All (λ (c : LaneCount). 0 < c.sends) cs
-    → All (λ (c : LaneCount). 0 < c.sends) (listed_with b e cs)
-some_with true e cs test rest =
-    All-cons (λ (c : LaneCount). 0 < c.sends) (record { lane = e.0; sends = e.1.sends }) cs (grind (arith, nat_tests)) rest
-some_with false e cs test rest = rest
+    let cs = sends_listed es in
+    let rest = rising-listed es (sorted_tail code_order e.0 (keys_of es) sorted) in
+    let above = all_listed (λ y. code_order e.0 y ≡ Less) es (sorted_head code_order e.0 (keys_of es) sorted) in
+    cond_both (nat_lt 0 e.1.sends) (count_of e ∷ cs) cs (λ xs. IsStrictlySortedBy code_order (lanes_of xs)) (λ _. (above, rest)) (λ _. rest)
 
 -- each lane listed has sends
 some-listed : (es : List (Lane × Tally)) → All (λ (c : LaneCount). 0 < c.sends) (sends_listed es)
 some-listed [] = All-nil (λ (c : LaneCount). 0 < c.sends)
-some-listed (e ∷ es) = some_with (nat_lt 0 e.1.sends) e (sends_listed es) refl (some-listed es)
+some-listed (e ∷ es) =
+    let P : LaneCount → Type 0 = λ c. 0 < c.sends in
+    let cs = sends_listed es in
+    cond_both (nat_lt 0 e.1.sends) (count_of e ∷ cs) cs (All P) (λ yes. All-cons P (count_of e) cs (grind (arith, nat_tests)) (some-listed es)) (λ _. some-listed es)
 
 -- the code's test for a lane is the one of the fields
 test-same : (e : Lane × Tally) (a : Lane) → is_lane e.0 a ≡ is_at (code_order a) e.0

@@ -1,6 +1,5 @@
 -- Slots that are full or empty, and the faults of single instructions
-use Rattle.std.proofs.Common.{◌≡◌, ℕ, ◌+◌, ◌<◌, ◌≤◌, Bool, false, List, [], ◌∷◌, length, get_or, take, Option, Some, None, slice_get, refl, sym, ap, subst, ◌∙◌, arith, All, ⊎_elim}
-use Rattle.std.proofs.lemmas.Bool.{cases_lt}
+use Rattle.std.proofs.Common.{◌≡◌, ℕ, ◌+◌, ◌<◌, ◌≤◌, Bool, false, List, [], ◌∷◌, length, get_or, take, Option, Some, None, slice_get, refl, sym, ap, subst, ◌∙◌, arith, All}
 use Rattle.std.proofs.lemmas.Option.{get_or_from_slice_get, slice_get_within, slice_get_past}
 use Rattle.std.proofs.lemmas.List.Sums.{fold_more}
 use Rattle.std.proofs.lemmas.List.Elements.{All-get_or, All-head, All-tail}
@@ -10,29 +9,29 @@ use Rattle.qm_instr.specs.declared.Gate.TheVariants as gate
 use Rattle.qm_instr.specs.declared.Instr.{Instr}
 use Rattle.qm_instr.specs.declared.Instr.TheVariants as instr
 use Rattle.qm_instr.specs.Operands.{HasOperands, slots_of, gate_slots}
-use Rattle.qm_instr.specs.Programs.{Programs, RankProgram, rank_of, idle_rank, IsInRange}
+use Rattle.qm_instr.specs.Programs.{Programs, rank_of, IsInRange}
 use Rattle.qm_instr.proofs.Ranges.{rank_of-in_range}
 use Rattle.qm_check.specs.declared.Fault.{Fault}
 use Rattle.qm_check.specs.declared.Uses.{Uses}
 use Rattle.qm_check.specs.declared.Uses.TheVariants.{Nothing, Fills, Keeps, Empties, Joins}
 use Rattle.qm_check.specs.Operands.{uses_of, gate_uses, partner_of}
-use Rattle.qm_check.specs.Faults.{IsFirst, IsBelow, IsEarlierStep}
-use Rattle.qm_check.proofs.Firsts.{IsFoundBelow, found_more, found_all, IsFoundInRows}
-use Rattle.std.proofs.lemmas.List.{get_or_past}
+use Rattle.qm_check.specs.Faults.{IsFirst, IsBelow}
+use Rattle.qm_check.proofs.Firsts.{IsFoundBelow, found_more, found_all}
 use Rattle.qm_check.specs.Slots.{HasFewSlots, is_full_after, full_after, partner_fault, slot_fault, instruction_fault, fault_if_any, step_fault}
 
 -- the only slot, and both slots, of a list
 one_below : (n q : ℕ) → n ≤ 16 → All (λ s. s < n) (q ∷ []) → q < 16
 one_below n q few h = let first : q < n = All-head (λ s. s < n) q [] h in omega arith
 
+both_below : (n c t : ℕ) → n ≤ 16 → All (λ s. s < n) (c ∷ t ∷ []) → (c < 16) × (t < 16)
+both_below n c t few h =
+    let first : c < n = All-head (λ s. s < n) c (t ∷ []) h in
+    (omega arith, one_below n t few (All-tail (λ s. s < n) c (t ∷ []) h))
+
 gate_few : (n : ℕ) (g : Gate) → n ≤ 16 → All (λ s. s < n) (gate_slots g) → HasFewSlots (gate_uses g)
 gate_few n (gate.One g q) few h = one_below n q few h
-gate_few n (gate.Cx c t) few h =
-    let first : c < n = All-head (λ s. s < n) c (t ∷ []) h in
-    (omega arith, one_below n t few (All-tail (λ s. s < n) c (t ∷ []) h))
-gate_few n (gate.Cz c t) few h =
-    let first : c < n = All-head (λ s. s < n) c (t ∷ []) h in
-    (omega arith, one_below n t few (All-tail (λ s. s < n) c (t ∷ []) h))
+gate_few n (gate.Cx c t) few h = both_below n c t few h
+gate_few n (gate.Cz c t) few h = both_below n c t few h
 
 -- the slots of an instruction over at most 16 slots are below 16
 uses-few : (n : ℕ) (i : Instr) → n ≤ 16 → All (λ s. s < n) (slots_of i) → HasFewSlots (uses_of i)
@@ -40,11 +39,7 @@ uses-few n (instr.Alloc q) few h = one_below n q few h
 uses-few n (instr.Free q) few h = one_below n q few h
 uses-few n (instr.Do g) few h = gate_few n g few h
 uses-few n (instr.Measure q b) few h = one_below n q few h
-uses-few n (instr.Set b v) few h = tt
-uses-few n (instr.Xor b c) few h = tt
 uses-few n (instr.When b g) few h = gate_few n g few h
-uses-few n (instr.SendBit b to tag) few h = tt
-uses-few n (instr.RecvBit b from tag) few h = tt
 uses-few n (instr.CopyTo q to tag) few h = one_below n q few h
 uses-few n (instr.CopyFrom q from tag) few h = one_below n q few h
 uses-few n (instr.UndoTo q to tag) few h = one_below n q few h
@@ -53,6 +48,7 @@ uses-few n (instr.MoveTo q to tag) few h = one_below n q few h
 uses-few n (instr.MoveFrom q from tag) few h = one_below n q few h
 uses-few n (instr.ReachTo q to tag) few h = one_below n q few h
 uses-few n (instr.ReachFrom t from tag) few h = one_below n t few h
+uses-few n _ few h = tt
 
 -- each instruction of programs in range has few slots
 pub instruction_slots-few : (p : Programs) (r k : ℕ) (i : Instr) → r < length p.ranks
@@ -130,10 +126,3 @@ pub walked_all : (p : Programs) (r k : ℕ) (full : ℕ → Bool) (o : Option Fa
     → IsFirst IsBelow (step_fault p r) o
 walked_all p r k full o walked all =
     found_all (step_fault p r) k o walked.found (λ j past. step_fault-past p r j (omega arith))
-
--- beyond the last rank there is no fault
-pub steps_all : (p : Programs) (n : ℕ) (o : Option Fault) → IsFoundInRows (step_fault p) n o
-    → length p.ranks ≤ n → IsFirst IsEarlierStep (λ s. step_fault p s.0 s.1) o
-steps_all p n None found all =
-    λ s. ⊎_elim (λ lower. found s.0 lower s.1) (λ past. step_fault-past p s.0 s.1 (omega (arith, ap (λ (x : RankProgram). length x.instructions) (get_or_past p.ranks s.0 idle_rank (omega arith))))) (cases_lt s.0 n)
-steps_all p n (Some f) found all = found

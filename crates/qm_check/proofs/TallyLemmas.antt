@@ -1,27 +1,23 @@
 -- The tallies of the lanes, as far as they are counted
 use Rattle.std.proofs.Common.{◌≡◌, ◌≢◌, ℕ, ◌+◌, ◌<◌, ◌≤◌, Bool, true, false, cond, List, take, count_by, slice_get, get_or, nat_lt, ⊎_elim, Option, Some, None, unwrap_or, refl, sym, ap, subst, ◌∙◌, arith}
-use Rattle.std.proofs.lemmas.Bool.{cases_lt}
+use Rattle.std.proofs.lemmas.Bool.{cases_lt, false_from_ne_true}
 use Rattle.std.proofs.lemmas.Bool.Decides.{nat_tests}
-use Rattle.std.proofs.lemmas.List.Sums.{sum_by_more, sum_by-le}
-use Rattle.std.proofs.lemmas.Option.{get_or_from_slice_get, slice_get_within}
+use Rattle.std.proofs.lemmas.List.Sums.{sum_by-le}
 use Rattle.std.specs.BTreeMap.{BTreeMap, get}
 use Rattle.std.specs.Map.{lookup}
 use Rattle.std.specs.declared.cmp.Ordering.{Ordering}
-use Rattle.std.specs.declared.cmp.Ordering.TheVariants.{Less, Equal, Greater}
-use Rattle.std.specs.Ordering.{is_eq, nat_cmp, ordering_then, MatchOrdering}
-use Rattle.std.proofs.lemmas.Cmp.{ranked}
+use Rattle.std.specs.Ordering.{is_eq}
 use Rattle.std.specs.Cmp.{IsTotalOrder}
 use Rattle.std.proofs.Math.Path.{fun_ext}
 use Rattle.qm_instr.specs.declared.Instr.{Instr}
 use Rattle.qm_instr.specs.declared.Lane.{Lane}
-use Rattle.qm_instr.specs.Lanes.{code_order, lane_order, is_on}
-use Rattle.qm_instr.proofs.LaneOrder.{lane_order-derived, lane_order-total, is_lane-order, equal_from_test}
+use Rattle.qm_instr.specs.Lanes.{code_order, lane_order, is_lane, is_on, lane_received}
+use Rattle.qm_instr.proofs.LaneOrder.{lane_order-derived, lane_order-total, is_lane-order, equal_from_test, same_lane}
 use Rattle.qm_check.specs.declared.messages.Tally.{Tally}
-use Rattle.qm_instr.specs.Lanes.{lane_received}
 use Rattle.qm_instr.specs.declared.Instr.TheVariants as instr
 use Rattle.qm_instr.specs.Programs.{Programs, rank_of}
-use Rattle.qm_check.specs.Messages.{posts_on, posts_in, receives_in, lane_sends, lane_receives}
-use Rattle.qm_check.proofs.PostLanes.{post_lane, posts_on-lane}
+use Rattle.qm_check.specs.Messages.{post_lane, posts_on, posts_in, receives_in, lane_sends, lane_receives}
+use Rattle.qm_check.proofs.TotalLemmas.{sum_more}
 use Rattle.qm_check.specs.Tallies.{tally, tally_in, plus, plus_at, plus_instruction, rank_tally}
 
 -- the order of the code is that of the fields
@@ -64,13 +60,6 @@ tally_in-noted m n on k a more had is read put =
 tally_same : (s s' r r' : ℕ) → s ≡ s' → r ≡ r' → tally s r ≡ tally s' r'
 tally_same s s' r r' sends receives = ap (λ x. tally x r) sends ∙ ap (tally s') receives
 
--- one more instruction that is counted or isn't
-count_more : (p : Instr → Bool) (is : List Instr) (k : ℕ) (i : Instr) → slice_get is k ≡ Some i
-    → count_by p (take (k + 1) is) ≡ count_by p (take k is) + cond (p i) 1 0
-count_more p is k i read =
-    sum_by_more (λ (x : Instr). cond (p x) 1 0) is k i (slice_get_within is k i read)
-    ∙ ap (λ (x : Instr). count_by p (take k is) + cond (p x) 1 0) (get_or_from_slice_get is k i i read)
-
 -- the tally after one instruction, by whether it posts and receives
 plus_flags : (p q : Bool) (t u : Tally) (s r : ℕ) → s ≡ u.sends + cond p 1 0
     → r ≡ u.receives + cond q 1 0
@@ -88,35 +77,19 @@ pub rank_tally_more : (m n : BTreeMap Lane Tally) (t : Tally) (r k : ℕ) (is : 
 rank_tally_more m n t r k is i a so_far read noted =
     noted
     ∙ ap (plus_instruction r i a) so_far
-    ∙ plus_flags (posts_on r i a) (is_on (lane_received r i) a) t (rank_tally r (take k is) a) _ _ (count_more (λ (x : Instr). posts_on r x a) is k i read) (count_more (λ (x : Instr). is_on (lane_received r x) a) is k i read)
+    ∙ plus_flags (posts_on r i a) (is_on (lane_received r i) a) t (rank_tally r (take k is) a) _ _ (sum_more (λ (x : Instr). cond (posts_on r x a) 1 0) is k i read) (sum_more (λ (x : Instr). cond (is_on (lane_received r x) a) 1 0) is k i read)
 
 -- a lane's tally over the ranks below n
 abbrev pub tally_below : Programs → ℕ → Lane → Tally
 tally_below p n a =
     tally (cond (nat_lt a.from n) (lane_sends p a) 0) (cond (nat_lt a.to n) (lane_receives p a) 0)
 
--- numbers that differ make an order that isn't equal
-apart_first : (x y : ℕ) (c o : Ordering) → MatchOrdering c (x < y) (x ≡ y) (y < x) → x ≢ y
-    → is_eq (ordering_then c o) ≡ false
-apart_first x y Less o h apart = refl
-apart_first x y Equal o h apart = absurd (apart h)
-apart_first x y Greater o h apart = refl
+-- the lane, if it is one, has this number at this end
+abbrev EndsAt : (Lane → ℕ) → ℕ → Option Lane → Type 0
+EndsAt end r None = Unit {0}
+EndsAt end r (Some b) = end b ≡ r
 
-apart_rest : (c o : Ordering) → is_eq o ≡ false → is_eq (ordering_then c o) ≡ false
-apart_rest Less o h = refl
-apart_rest Equal o h = h
-apart_rest Greater o h = refl
-
--- the lane, if it is one, is from rank r, or to rank r
-abbrev IsFrom : ℕ → Option Lane → Type 0
-IsFrom r None = Unit {0}
-IsFrom r (Some b) = b.from ≡ r
-
-abbrev IsTo : ℕ → Option Lane → Type 0
-IsTo r None = Unit {0}
-IsTo r (Some b) = b.to ≡ r
-
-posted_from : (r : ℕ) (i : Instr) → IsFrom r (post_lane r i)
+posted_from : (r : ℕ) (i : Instr) → EndsAt (λ b. b.from) r (post_lane r i)
 posted_from r (instr.SendBit b to tag) = refl
 posted_from r (instr.CopyTo q to tag) = refl
 posted_from r (instr.UndoTo q to tag) = refl
@@ -125,7 +98,7 @@ posted_from r (instr.ReachTo q to tag) = refl
 posted_from r (instr.ReachFrom t from tag) = refl
 posted_from r _ = tt
 
-received_to : (r : ℕ) (i : Instr) → IsTo r (lane_received r i)
+received_to : (r : ℕ) (i : Instr) → EndsAt (λ b. b.to) r (lane_received r i)
 received_to r (instr.RecvBit b from tag) = refl
 received_to r (instr.CopyFrom q from tag) = refl
 received_to r (instr.UndoFrom q from tag) = refl
@@ -133,17 +106,9 @@ received_to r (instr.MoveFrom q from tag) = refl
 received_to r (instr.ReachFrom t from tag) = refl
 received_to r _ = tt
 
-not_lane_from : (r : ℕ) (o : Option Lane) (a : Lane) → IsFrom r o → a.from ≢ r → is_on o a ≡ false
-not_lane_from r None a from apart = refl
-not_lane_from r (Some b) a from apart =
-    is_lane-order b a
-    ∙ apart_first b.from a.from (nat_cmp b.from a.from) _ (ranked b.from a.from (nat_cmp b.from a.from) refl) (λ e. apart (sym e ∙ from))
-
-not_lane_to : (r : ℕ) (o : Option Lane) (a : Lane) → IsTo r o → a.to ≢ r → is_on o a ≡ false
-not_lane_to r None a to apart = refl
-not_lane_to r (Some b) a to apart =
-    is_lane-order b a
-    ∙ apart_rest (nat_cmp b.from a.from) _ (apart_first b.to a.to (nat_cmp b.to a.to) _ (ranked b.to a.to (nat_cmp b.to a.to) refl) (λ e. apart (sym e ∙ to)))
+ends_elsewhere : (end : Lane → ℕ) (r : ℕ) (o : Option Lane) (a : Lane) → EndsAt end r o → end a ≢ r → is_on o a ≡ false
+ends_elsewhere end r None a at apart = refl
+ends_elsewhere end r (Some b) a at apart = false_from_ne_true (is_lane b a) (λ same. apart (sym (ap end (same_lane b a same)) ∙ at))
 
 -- where no instruction counts, the count is 0
 count_none : (p : Instr → Bool) (is : List Instr) → ((i : Instr) → p i ≡ false) → count_by p is ≡ 0
@@ -164,8 +129,8 @@ pub tally_below_more : (p : Programs) (n : ℕ) (s t : Tally) (a : Lane) → s �
     → t ≡ plus s (rank_tally n (rank_of p n).instructions a) → t ≡ tally_below p (n + 1) a
 tally_below_more p n s t a so_far noted =
     let is = (rank_of p n).instructions in
-    let sends : cond (nat_lt a.from n) (lane_sends p a) 0 + posts_in n a is ≡ cond (nat_lt a.from (n + 1)) (lane_sends p a) 0 = part_more a.from n (lane_sends p a) (posts_in n a is) (λ e. ap (λ (r : ℕ). posts_in r a (rank_of p r).instructions) (sym e)) (λ apart. count_none (λ i. posts_on n i a) is (λ i. posts_on-lane n i a ∙ not_lane_from n (post_lane n i) a (posted_from n i) apart)) in
-    let receives : cond (nat_lt a.to n) (lane_receives p a) 0 + receives_in n a is ≡ cond (nat_lt a.to (n + 1)) (lane_receives p a) 0 = part_more a.to n (lane_receives p a) (receives_in n a is) (λ e. ap (λ (r : ℕ). receives_in r a (rank_of p r).instructions) (sym e)) (λ apart. count_none (λ i. is_on (lane_received n i) a) is (λ i. not_lane_to n (lane_received n i) a (received_to n i) apart)) in
+    let sends : cond (nat_lt a.from n) (lane_sends p a) 0 + posts_in n a is ≡ cond (nat_lt a.from (n + 1)) (lane_sends p a) 0 = part_more a.from n (lane_sends p a) (posts_in n a is) (λ e. ap (λ (r : ℕ). posts_in r a (rank_of p r).instructions) (sym e)) (λ apart. count_none (λ i. posts_on n i a) is (λ i. ends_elsewhere (λ b. b.from) n (post_lane n i) a (posted_from n i) apart)) in
+    let receives : cond (nat_lt a.to n) (lane_receives p a) 0 + receives_in n a is ≡ cond (nat_lt a.to (n + 1)) (lane_receives p a) 0 = part_more a.to n (lane_receives p a) (receives_in n a is) (λ e. ap (λ (r : ℕ). receives_in r a (rank_of p r).instructions) (sym e)) (λ apart. count_none (λ i. is_on (lane_received n i) a) is (λ i. ends_elsewhere (λ b. b.to) n (lane_received n i) a (received_to n i) apart)) in
     noted
     ∙ ap (λ (x : Tally). plus x (rank_tally n is a)) so_far
     ∙ tally_same _ _ _ _ sends receives

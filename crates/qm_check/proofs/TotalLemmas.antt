@@ -12,14 +12,6 @@ use Rattle.qm_check.specs.Totals.{totals_of, totals_over, HasFew}
 -- no instruction has more than 5 events, 2 outcomes of the protocol tape and 1 of the own tape
 pub counts_small : (i : Instr) → (events_of i ≤ 5) × (protocol_of i ≤ 2) × (own_of i ≤ 1)
 counts_small (instr.Measure q b) = (omega arith, omega arith, omega arith)
-counts_small (instr.CopyTo q to tag) = (omega arith, omega arith, omega arith)
-counts_small (instr.CopyFrom q from tag) = (omega arith, omega arith, omega arith)
-counts_small (instr.UndoFrom q from tag) = (omega arith, omega arith, omega arith)
-counts_small (instr.UndoTo q to tag) = (omega arith, omega arith, omega arith)
-counts_small (instr.MoveTo q to tag) = (omega arith, omega arith, omega arith)
-counts_small (instr.MoveFrom q from tag) = (omega arith, omega arith, omega arith)
-counts_small (instr.ReachTo q to tag) = (omega arith, omega arith, omega arith)
-counts_small (instr.ReachFrom t from tag) = (omega arith, omega arith, omega arith)
 counts_small _ = (omega arith, omega arith, omega arith)
 
 -- the totals of so many instructions or ranks, each of which adds at most e, p and o

@@ -8,3 +8,4 @@ pub mod Slots
 pub mod Tallies
 pub mod Tapes
 pub mod Totals
+pub mod Widths

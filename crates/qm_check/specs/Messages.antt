@@ -7,31 +7,20 @@ use Rattle.qm_instr.specs.declared.Instr.TheVariants as instr
 use Rattle.qm_instr.specs.declared.Kind.{Kind}
 use Rattle.qm_instr.specs.declared.Kind.TheVariants as kind
 use Rattle.qm_instr.specs.declared.Lane.{Lane}
-use Rattle.qm_instr.specs.Lanes.{lane, lane_order, is_lane, lane_received, is_on}
+use Rattle.qm_instr.specs.Lanes.{lane, lane_order, is_lane, lane_sent, lane_received, is_on}
 use Rattle.qm_instr.specs.Programs.{Programs, rank_of}
 use Rattle.qm_check.specs.declared.Fault.{Fault}
 use Rattle.qm_check.specs.declared.Fault.TheVariants as fault
 use Rattle.qm_check.specs.declared.LaneCount.{LaneCount}
 
--- whether an instruction of a rank posts on lane a, by its send or by its answer to a reach
+-- the lane on which an instruction of a rank posts: that of its send, or of its answer to a reach
+abbrev pub post_lane : ℕ → Instr → Option Lane
+post_lane r (instr.ReachFrom t from tag) = Some (lane r from kind.Back tag)
+post_lane r i = lane_sent r i
+
+-- whether an instruction of a rank posts on lane a
 abbrev pub posts_on : ℕ → Instr → Lane → Bool
-posts_on r (instr.Alloc q) a = false
-posts_on r (instr.Free q) a = false
-posts_on r (instr.Do g) a = false
-posts_on r (instr.Measure q b) a = false
-posts_on r (instr.Set b v) a = false
-posts_on r (instr.Xor b c) a = false
-posts_on r (instr.When b g) a = false
-posts_on r (instr.SendBit b to tag) a = is_lane (lane r to kind.Bit tag) a
-posts_on r (instr.RecvBit b from tag) a = false
-posts_on r (instr.CopyTo q to tag) a = is_lane (lane r to kind.Copy tag) a
-posts_on r (instr.CopyFrom q from tag) a = false
-posts_on r (instr.UndoTo q to tag) a = is_lane (lane r to kind.Undo tag) a
-posts_on r (instr.UndoFrom q from tag) a = false
-posts_on r (instr.MoveTo q to tag) a = is_lane (lane r to kind.Move tag) a
-posts_on r (instr.MoveFrom q from tag) a = false
-posts_on r (instr.ReachTo q to tag) a = is_lane (lane r to kind.Reach tag) a
-posts_on r (instr.ReachFrom t from tag) a = is_lane (lane r from kind.Back tag) a
+posts_on r i a = is_on (post_lane r i) a
 
 -- how many instructions of a rank post on a lane
 abbrev pub posts_in : ℕ → Lane → List Instr → ℕ

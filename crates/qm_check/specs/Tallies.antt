@@ -1,5 +1,5 @@
 -- The tallies of the lanes, as the code keeps them
-use Rattle.std.specs.Prelude.{ℕ, ◌+◌, ◌≤◌, nat_lt, Bool, if◌then◌else◌, List, [], ◌∷◌, unwrap_or, Option, None}
+use Rattle.std.specs.Prelude.{ℕ, ◌+◌, ◌≤◌, nat_lt, if◌then◌else◌, List, [], ◌∷◌, unwrap_or, Option, None}
 use Rattle.std.specs.Option.{option_or}
 use Rattle.std.specs.BTreeMap.{BTreeMap, get}
 use Rattle.qm_instr.specs.declared.Instr.{Instr}
@@ -9,7 +9,7 @@ use Rattle.qm_instr.specs.Programs.{Programs}
 use Rattle.qm_check.specs.declared.Fault.{Fault}
 use Rattle.qm_check.specs.declared.LaneCount.{LaneCount}
 use Rattle.qm_check.specs.declared.messages.Tally.{Tally}
-use Rattle.qm_check.specs.Messages.{posts_on, posts_in, receives_in, lane_sends, lane_receives, match_fault}
+use Rattle.qm_check.specs.Messages.{post_lane, posts_in, receives_in, lane_sends, lane_receives, match_fault}
 
 abbrev pub tally : ℕ → ℕ → Tally
 tally sends receives = record { sends = sends; receives = receives }
@@ -22,13 +22,9 @@ tally_in m a = unwrap_or (get code_order m a) (tally 0 0)
 abbrev pub plus : Tally → Tally → Tally
 plus s t = tally (s.sends + t.sends) (s.receives + t.receives)
 
--- more added to a tally where the bit is one
-abbrev pub plus_if : Bool → Tally → Tally → Tally
-plus_if on more had = if on then plus had more else had
-
 -- what a message on a lane, if it is one, adds to the tally of lane a
 abbrev pub plus_at : Option Lane → Tally → Lane → Tally → Tally
-plus_at on more a had = plus_if (is_on on a) more had
+plus_at on more a had = if is_on on a then plus had more else had
 
 -- a lane's tally over instructions of a rank
 abbrev pub rank_tally : ℕ → List Instr → Lane → Tally
@@ -52,7 +48,7 @@ sends_listed (e ∷ es) =
 -- what an instruction of a rank adds to the tally of lane a
 abbrev pub plus_instruction : ℕ → Instr → Lane → Tally → Tally
 plus_instruction r i a had =
-    plus_at (lane_received r i) (tally 0 1) a (plus_if (posts_on r i a) (tally 1 0) had)
+    plus_at (lane_received r i) (tally 0 1) a (plus_at (post_lane r i) (tally 1 0) a had)
 
 -- a tally is at most so much
 abbrev pub IsAtMost : ℕ → Tally → Type 0

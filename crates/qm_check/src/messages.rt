@@ -2,8 +2,8 @@
 ghost use Rattle.std.specs.Prelude.{◌≡◌, ◌*◌, ◌<◌, ◌≤◌, length, IfOk, OnOk};
 ghost use Rattle.std.specs.BTreeMap.{IsOrdered};
 ghost use Rattle.qm_instr.specs.Programs.{rank_of};
-ghost use Rattle.qm_instr.specs.Lanes.{code_order, is_on};
-ghost use Rattle.qm_check.specs.Messages.{posts_on, match_fault};
+ghost use Rattle.qm_instr.specs.Lanes.{code_order};
+ghost use Rattle.qm_check.specs.Messages.{post_lane, match_fault};
 ghost use Rattle.qm_check.specs.Tallies.{tally, tally_in, plus, plus_at, rank_tally, lane_tally, plus_instruction, IsAtMost, first_mismatch, sends_listed};
 
 use crate::{Fault, LaneCount};
@@ -44,7 +44,7 @@ pub(crate) type Tallies = BTreeMap<Lane, Tally>;
 
 /// The lane on which an instruction of a rank posts: that of its send, or of its answer to a reach.
 fn posted_lane(rank: u16, i: Instr) -> Option<Lane>
-    ensures { (a : Lane) → is_on result a ≡ posts_on rank i a }
+    ensures { result ≡ post_lane rank i }
 {
     match i {
         Instr::ReachFrom { from, tag, .. } => Some(Lane::new(rank, from, Kind::Back, tag)),

@@ -14,8 +14,8 @@ pub record IsWiredAs (w : Wiring) (t : IdealTables) (r s : ℕ) : Type 0 where
   pub slot : (k q : ℕ) → w.slot k q ≡ ideal_wire_in t k q
   pub sent : w.sent r s ≡ ideal_wire_made t r
 
--- the letters of which the laws of the collectives speak are those of the ideal machine: of a message, those of the steps at its two ends while both
--- ranks stand there; of a controlled-not, those of its step
+-- the letters of which the laws of the collectives speak are those of the ideal machine: of a message, those of the steps at its two
+-- ends while both ranks stand there; of a controlled-not, those of its step
 pub record LetterLaw : Type 0 where
   pub message : (p : Programs) (t : IdealTables) (w : Wiring) (r s : ℕ) (i j : Instr) (a : Lane) → IsWiredAs w t r s
       → lane_sent r i ≡ Some a → lane_received s j ≡ Some a → ideal_current p t r ≡ Some i → ideal_current p t s ≡ Some j

@@ -9,9 +9,12 @@ pub mod StepLemmas
 pub mod SignLemmas
 pub mod ExprWalk
 pub mod BodyWalk
+pub mod Holding
 pub mod TapeLemmas
 pub mod TreeWalk
 pub mod OneReading
 pub mod ReadLemmas
 pub mod ReadRanges
 pub mod SomeReading
+pub mod TwoVersions
+pub mod SameSizes

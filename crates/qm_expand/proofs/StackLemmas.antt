@@ -7,7 +7,7 @@ use Rattle.qm_expand.specs.declared.ReadError.{ReadError}
 use Rattle.qm_expand.specs.declared.ReadError.TheVariants as errors
 use Rattle.qm_expand.specs.Steps.{Outcome, ◌>>=◌}
 use Rattle.qm_expand.specs.Values.{Scope}
-use Rattle.qm_expand.specs.Walk.{Bytes, Fails, Answers, pushed, on_two, onto}
+use Rattle.qm_expand.specs.Walk.{Words, Fails, Answers, pushed, on_two, onto}
 use Rattle.qm_expand.specs.Views.{IsPushed}
 
 -- a fault of a step is that of the whole
@@ -31,8 +31,8 @@ pub reverse_push : (xs ys : List ℤ) (x : ℤ) → xs ≡ ys ++ x ∷ [] → re
 reverse_push xs ys x e = ap reverse e ∙ reverse-append ys (x ∷ [])
 
 -- an operator takes two
-module _ (bytes : Bytes) (line : ℕ) (s : Scope) (token value : ℕ) (stack : List ℤ) where
-  pub pushed-op : (w : What) → w ≢ what.Num → w ≢ what.Name → w ≢ what.Rank → w ≢ what.Size → pushed bytes line s w token value stack ≡ on_two line w stack
+module _ (words : Words) (line : ℕ) (s : Scope) (token value : ℕ) (stack : List ℤ) where
+  pub pushed-op : (w : What) → w ≢ what.Num → w ≢ what.Name → w ≢ what.Rank → w ≢ what.Size → pushed words line s w token value stack ≡ on_two line w stack
   pushed-op what.Num a b c d = absurd (a refl)
   pushed-op what.Name a b c d = absurd (b refl)
   pushed-op what.Rank a b c d = absurd (c refl)

@@ -4,9 +4,13 @@ use Rattle.qm_limits.specs.declared.TheConstants.{SLOTS}
 use Rattle.qm_instr.specs.declared.Gate.{Gate}
 use Rattle.qm_instr.specs.declared.Instr.{Instr}
 use Rattle.qm_instr.specs.declared.Instr.TheVariants as instr
-use Rattle.qm_instr.specs.Programs.{Programs, idle_rank, rank_of}
+use Rattle.qm_instr.specs.Programs.{Programs, RankProgram, idle_rank, rank_of}
 use Rattle.qm_collect.specs.declared.Collective.{Collective}
 use Rattle.qm_collect.specs.Table.{instructions_at, root_of, slots_of}
+use Rattle.qm_parse.specs.declared.words.Version.{Version}
+use Rattle.qm_parse.specs.declared.words.Version.TheVariants as version
+use Rattle.qm_parse.specs.Words.{version_number}
+use Rattle.qm_parse.specs.Nodes.{head_tokens}
 use Rattle.qm_parse.specs.Trees.{Call, Body, Nothing, Then, Stmt, Do, DoUnder, For, Blocks, ForAll, ForEach, TapeLine, Program}
 use Rattle.qm_parse.specs.Spelling.{expr_signs, stmt_signs, body_signs}
 use Rattle.qm_expand.specs.declared.made.Operation.{Operation}
@@ -112,10 +116,29 @@ abbrev pub with_tapes : List TapeLine → Programs → Programs
 with_tapes [] p = p
 with_tapes (t ∷ ts) p = with_tapes ts (with_outcomes t.own t.rank t.outcomes p)
 
+-- the sizes of the ranks, where these are written: in version 1 one number is that of every rank, in version 2 each rank has its own
+abbrev pub by_rank : Version → ℕ → List ℕ → List ℕ
+by_rank version.One ranks sizes = replicate ranks (slice_index sizes 0)
+by_rank version.Two ranks sizes = sizes
+
+-- ranks with these slots and these buffers, and without instructions
+abbrev pub sized_ranks : (qubits buffers : List ℕ) → List RankProgram
+sized_ranks [] bs = []
+sized_ranks (q ∷ qs) [] = []
+sized_ranks (q ∷ qs) (b ∷ bs) = record idle_rank { qubits = q; buffer = b } ∷ sized_ranks qs bs
+
+-- so many ranks of a version, where these sizes are written
+abbrev pub sized_programs : Version → ℕ → (qubits buffers : List ℕ) → Programs
+sized_programs v ranks qubits buffers = record {
+  version = version_number v;
+  ranks = sized_ranks (by_rank v ranks qubits) (by_rank v ranks buffers);
+}
+
 -- all ranks with their sizes, and without instructions
 abbrev pub sized : Program → Programs
-sized p = record { version = 1; ranks = replicate p.ranks (record idle_rank { qubits = p.qubits; buffer = p.buffer }) }
+sized p = sized_programs p.version p.ranks p.qubits p.buffers
 
 -- the programs of all ranks, or the first fault
 abbrev pub expanded : Lines → Program → Outcome Programs
-expanded lines p = blocks_expanded lines 8 p.ranks p.blocks (draft (sized p) 0) >>= λ d. Ok (with_tapes p.tapes d.programs)
+expanded lines p =
+    blocks_expanded lines (head_tokens p) p.ranks p.blocks (draft (sized p) 0) >>= λ d. Ok (with_tapes p.tapes d.programs)

@@ -7,3 +7,4 @@ pub mod Reading
 pub mod Laws
 pub mod Walk
 pub mod Views
+pub mod Sizes

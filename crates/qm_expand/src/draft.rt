@@ -4,11 +4,12 @@ ghost use Rattle.std.specs.Prelude.{◌≡◌};
 ghost use Rattle.qm_instr.specs.Programs.{instruction_total};
 
 use crate::ReadError;
+use crate::head::{Head, size_of};
 use crate::ranges::{can_be_called, has_operands};
 use crate::values::Scope;
 use qm_collect::{Collective, count, instr_at};
 use qm_instr::{Input, Instr};
-use qm_limits::{MOST_HALVES, MOST_INSTRUCTIONS, MOST_OUTCOMES, MOST_RANKS, MOST_TURNS, SLOTS};
+use qm_limits::{MOST_INSTRUCTIONS, MOST_OUTCOMES, MOST_TURNS};
 use std::alloc::{AllocError, Global};
 
 /// The programs as far as they are expanded, and how many turns all loops have had.
@@ -25,26 +26,20 @@ impl Draft {
     ghost use Rattle.std.specs.Prelude.{◌<◌, ◌≤◌, ◌==◌, [], ◌∷◌, IfOk, Ok, OnOk, length, map};
     ghost use Rattle.qm_instr.specs.Programs.{rank_of};
     ghost use Rattle.qm_expand.specs.Drafts.{draft, with_made, with_turn, with_outcomes};
-    ghost use Rattle.qm_expand.specs.Walk.{Answers, shared, sized_programs, tape_of, appended};
-    ghost use Rattle.qm_expand.specs.Views.{draft_seen};
+    ghost use Rattle.qm_expand.specs.Expansion.{sized_programs};
+    ghost use Rattle.qm_expand.specs.Walk.{Answers, shared, tape_of, appended, numbers_in};
+    ghost use Rattle.qm_expand.specs.Views.{AreSized, draft_seen};
 
-    /// Ranks without instructions, all with as many slots and buffers of one size.
-    pub(crate) fn start(
-        alloc: Global,
-        ranks: u16,
-        qubits: u8,
-        buffer: u8,
-    ) -> Result<Draft, AllocError>
-        requires some_ranks { 1 ≤ ranks }
-        requires few_ranks { ranks ≤ MOST_RANKS }
-        requires some_qubits { 1 ≤ qubits }
-        requires few_qubits { qubits ≤ SLOTS }
-        requires some_buffer { 1 ≤ buffer }
-        requires small_buffer { buffer ≤ MOST_HALVES }
-        ensures { IfOk result (λ d. draft_seen d ≡ draft (sized_programs ranks qubits buffer) 0) }
+    /// Ranks with the sizes of a head, without instructions.
+    pub(crate) fn start(alloc: Global, head: &Head<'_>) -> Result<Draft, AllocError>
+        requires { AreSized head.now }
+        ensures { IfOk result (λ d. draft_seen d ≡ draft (sized_programs head.now.version head.now.ranks
+            (numbers_in head.now.qubits.now) (numbers_in head.now.buffers.now)) 0) }
     {
-        let mut input = Input::start(alloc, 1, ranks)?;
-        for rank in 0..ranks {
+        let mut input = Input::start(alloc, head.version.number(), head.ranks)?;
+        for rank in 0..head.ranks {
+            let qubits = size_of(head.version, head.qubits, rank);
+            let buffer = size_of(head.version, head.buffers, rank);
             input.size(rank, qubits, buffer);
         }
         Ok(Draft {

@@ -2,6 +2,7 @@
 #![tactic(auto)]
 
 mod draft;
+mod head;
 mod laws;
 mod made;
 mod operands;
@@ -12,7 +13,7 @@ mod values;
 mod walk;
 mod words;
 
-pub use laws::{one_reading, some_reading};
+pub use laws::{one_reading, same_sizes_law, some_reading};
 pub use made::Operation;
 pub use reading::read;
 use thiserror::Error;

@@ -1,19 +1,20 @@
 //! Reading: a text to its tokens, to its source tree, to the programs of all ranks.
 
-ghost use Rattle.std.specs.Prelude.{◌≡◌, ◌≤◌, ◌^◌, ◌<◌, [], ◌∷◌, ◌++◌, length, Ok};
+ghost use Rattle.std.specs.Prelude.{◌≡◌, ◌≤◌, length, Ok};
 ghost use Rattle.qm_lex.specs.Lexing.{token_list, tokens_of};
 ghost use Rattle.qm_lex.specs.Spans.{LieIn};
-ghost use Rattle.qm_parse.specs.Signs.{signs_of};
-ghost use Rattle.qm_parse.specs.Parsing.{IsTree, node_list};
+ghost use Rattle.qm_parse.specs.Signs.{signs_of, verbs_of};
+ghost use Rattle.qm_parse.specs.Parsing.{IsTree, node_list, verb_list};
 ghost use Rattle.qm_expand.specs.Reading.{Reads};
-ghost use Rattle.qm_expand.specs.Walk.{Answers};
+ghost use Rattle.qm_expand.specs.Views.{AreWords};
 
 use crate::ReadError;
 use crate::program::expand;
+use crate::words::Source;
 use qm_instr::Input;
 use qm_lex::{LexError, Tokens, lex};
 use qm_limits::MOST_BYTES;
-use qm_parse::{Node, ParseError, Tree, parse};
+use qm_parse::{ParseError, parse};
 use std::alloc::Global;
 
 /// The programs of all ranks that a text of at most [`MOST_BYTES`] bytes gives, or the first fault: of its bytes, then of its grammar,
@@ -39,7 +40,14 @@ fn read_tokens(alloc: Global, text: &[u8], tokens: &Tokens) -> Result<Input, Rea
     ensures { Reads text.now result }
 {
     match parse(alloc, text, tokens) {
-        Ok(tree) => expand_tree(alloc, text, tokens, &tree),
+        Ok(tree) => {
+            let source = Source {
+                text,
+                tokens,
+                tree: &tree,
+            };
+            expand_tree(alloc, &source)
+        }
         Err(error) => match error {
             ParseError::Unexpected { line } => Err(ReadError::Unexpected { line }),
             ParseError::NumberTooLarge { line } => Err(ReadError::NumberTooLarge { line }),
@@ -51,36 +59,15 @@ fn read_tokens(alloc: Global, text: &[u8], tokens: &Tokens) -> Result<Input, Rea
 }
 
 /// The programs that a source tree gives.
-fn expand_tree(alloc: Global, text: &[u8], tokens: &Tokens, tree: &Tree) -> Result<Input, ReadError>
-    requires small { length text.now ≤ MOST_BYTES }
-    requires are { tokens_of text.now ≡ Ok (token_list tokens.now) }
-    requires lie { LieIn text.now (token_list tokens.now) }
-    requires tree { IsTree (signs_of text.now (token_list tokens.now)) (node_list tree.now) }
-    ensures { Reads text.now result }
+fn expand_tree(alloc: Global, source: &Source<'_>) -> Result<Input, ReadError>
+    requires small { length source.now.text.now ≤ MOST_BYTES }
+    requires are { tokens_of source.now.text.now ≡ Ok (token_list source.now.tokens.now) }
+    requires lie { AreWords source.now }
+    requires tree { IsTree (signs_of source.now.text.now (token_list source.now.tokens.now))
+        (node_list source.now.tree.now) }
+    requires verbs { verb_list source.now.tree.now
+        ≡ verbs_of source.now.text.now (token_list source.now.tokens.now) }
+    ensures { Reads source.now.text.now result }
 {
-    let nodes = nodes_of(alloc, tree)?;
-    expand(alloc, text, tokens, nodes.as_slice())
-}
-
-/// The nodes of a tree.
-fn nodes_of(alloc: Global, tree: &Tree) -> Result<Vec<Node>, ReadError>
-    ensures { Answers (λ v. v.items) result (Ok (node_list tree.now)) }
-{
-    let mut nodes = Vec::new(alloc);
-    for j in 0..tree.len() {
-        if let Some(node) = tree.node(j) {
-            push_node(&mut nodes, node)?;
-        }
-    }
-    Ok(nodes)
-}
-
-/// Appends a node.
-fn push_node(nodes: &mut Vec<Node>, node: Node) -> Result<(), ReadError>
-    ensures { Answers (λ _. nodes.new.items) result (Ok (nodes.old.items ++ node ∷ [])) }
-{
-    match nodes.push(node) {
-        Ok(()) => Ok(()),
-        Err(_) => Err(ReadError::Memory),
-    }
+    expand(alloc, source)
 }

@@ -3,14 +3,12 @@
 ghost use Rattle.std.specs.Prelude.{◌≡◌, ◌≤◌, ◌<◌, [], IfOk, length, reverse};
 ghost use Rattle.qm_expand.specs.Values.{bound, ranged, result_of, computed, within, limit};
 ghost use Rattle.qm_expand.specs.Walk.{Answers, pushed, value_at};
-ghost use Rattle.qm_expand.specs.Views.{AreWords, words_of, scope_in, scope_of, widest, value_seen, IsPushed};
+ghost use Rattle.qm_expand.specs.Views.{AreWords, words_of, names_in, scope_in, scope_of, widest, value_seen, IsPushed};
 
 use crate::ReadError;
-use crate::words::bytes;
-use qm_lex::Tokens;
+use crate::words::{Source, bytes};
 use qm_limits::{BITS, LARGEST_VALUE, PEERS, TAGS};
 use qm_parse::{Node, Operand, What};
-use std::alloc::Global;
 
 /// The rank that is expanded, the number of ranks, and the rank's slots.
 #[derive(Clone, Copy)]
@@ -20,13 +18,11 @@ pub(crate) struct Scope {
     pub(crate) qubits: u8,
 }
 
-/// What is known where an instruction stands: the text and its tokens, the rank with its sizes, and the names of the loops around.
+/// What is known of all that a rank does: the text, and the rank with its sizes.
 #[derive(Clone, Copy)]
 pub(crate) struct Context<'a> {
-    pub(crate) text: &'a [u8],
-    pub(crate) tokens: &'a Tokens,
+    pub(crate) source: Source<'a>,
     pub(crate) scope: Scope,
-    pub(crate) names: &'a [Binding],
 }
 
 /// The value of a loop's name in one of its turns; the name is a token of the text.
@@ -34,6 +30,17 @@ pub(crate) struct Context<'a> {
 pub(crate) struct Binding {
     pub(crate) token: usize,
     pub(crate) value: i64,
+}
+
+/// The names of the loops around, the innermost last.
+pub(crate) type Names = Vec<Binding>;
+
+/// What grows and shrinks on the way: the names of the loops around, and the numbers of an expression that wait for an operator, each with
+/// the newest last.
+#[derive(Drop)]
+pub(crate) struct Stacks {
+    pub(crate) names: Names,
+    pub(crate) numbers: Vec<i64>,
 }
 
 /// The value of an expression, and how many nodes it has with its end.
@@ -45,29 +52,30 @@ pub(crate) struct Valued {
 
 /// The value of the expression at the front of these nodes; its faults have this line.
 pub(crate) fn value(
-    alloc: Global,
     context: &Context<'_>,
+    names: &Names,
+    numbers: &mut Vec<i64>,
     line: u32,
     nodes: &[Node],
 ) -> Result<Valued, ReadError>
-    requires { AreWords context.now }
+    requires { AreWords context.now.source }
     ensures answers { Answers value_seen result
-        (value_at (words_of context.now) line (scope_in context.now) nodes.now) }
+        (value_at (words_of context.now.source) line (scope_in context.now names.now.items) nodes.now) }
     ensures used { IfOk result (λ v. v.used ≤ length nodes.now) }
 {
-    let mut stack = Vec::new(alloc);
+    numbers.clear();
     let mut used = 0;
     while used < nodes.len() {
         let node = nodes[used];
         used += 1;
         if node.what == What::Arg {
-            return match stack.pop() {
+            return match numbers.pop() {
                 Some(value) => Ok(Valued { value, used }),
                 None => Err(ReadError::OutOfRange { line }),
             };
         }
-        let value = node_value(context, line, node, &mut stack)?;
-        let Ok(()) = stack.push(value) else {
+        let value = node_value(context, names, line, node, numbers)?;
+        let Ok(()) = numbers.push(value) else {
             return Err(ReadError::Memory);
         };
     }
@@ -77,20 +85,21 @@ pub(crate) fn value(
 /// The value of a node; an operator takes its two sides from the stack.
 fn node_value(
     context: &Context<'_>,
+    names: &Names,
     line: u32,
     node: Node,
     stack: &mut Vec<i64>,
 ) -> Result<i64, ReadError>
-    requires { AreWords context.now }
+    requires { AreWords context.now.source }
     ensures { IsPushed (reverse stack.new.items) result
-        (pushed (words_of context.now) line (scope_in context.now)
+        (pushed (words_of context.now.source) line (scope_in context.now names.now.items)
         node.what node.token node.value (reverse stack.old.items)) }
 {
     match node.what {
         What::Num => ranged(line, i128::from(node.value)),
         What::Rank => ranged(line, i128::from(context.scope.rank)),
         What::Size => ranged(line, i128::from(context.scope.ranks)),
-        What::Name => match bound(context, node.token as usize) {
+        What::Name => match bound(&context.source, names, node.token as usize) {
             Some(value) => ranged(line, i128::from(value)),
             None => Err(ReadError::UnknownName { line }),
         },
@@ -105,18 +114,19 @@ fn node_value(
 }
 
 /// The value of a name: that of the innermost loop that has it.
-fn bound(context: &Context<'_>, token: usize) -> Option<i64>
-    requires { AreWords context.now }
-    ensures { result ≡ bound (scope_in context.now).names (words_of context.now token) }
+fn bound(source: &Source<'_>, names: &Names, token: usize) -> Option<i64>
+    requires { AreWords source.now }
+    ensures { result ≡ bound (names_in source.now names.now.items) ((words_of source.now).bytes token) }
 {
-    let name = bytes(context.text, context.tokens, token);
-    let mut found = None;
-    for binding in context.names {
-        if bytes(context.text, context.tokens, binding.token) == name {
-            found = Some(binding.value);
+    let name = bytes(source, token);
+    let mut rest = names.as_slice();
+    while let Some((newest, front)) = rest.split_last() {
+        if bytes(source, newest.token) == name {
+            return Some(newest.value);
         }
+        rest = front;
     }
-    found
+    None
 }
 
 /// What an operator makes of its two sides.

@@ -3,17 +3,16 @@
 ghost use Rattle.std.specs.Prelude.{◌≡◌, ◌+◌, ◌+ℤ◌, ◌<◌, ◌≤◌, ◌^◌, pos, ℕ, [], ◌∷◌, ◌++◌, length, take, drop, Ok, OnOk};
 ghost use Rattle.qm_expand.specs.Expansion.{inside, turn_count};
 ghost use Rattle.qm_expand.specs.Walk.{Answers, own_len, walk, stepped, looped, turned, called, gated};
-ghost use Rattle.qm_expand.specs.Views.{AreWords, words_of, word_lines, scope_in, draft_seen};
+ghost use Rattle.qm_expand.specs.Views.{AreWords, words_of, scope_in, draft_seen};
 
 use crate::ReadError;
 use crate::draft::Draft;
 use crate::made::{Operation, gate_made, make, small};
 use crate::operands::gather;
-use crate::values::{Binding, Context, Valued, value};
-use crate::words::{line, verb};
+use crate::values::{Binding, Context, Names, Stacks, Valued, value};
+use crate::words::line;
 use qm_instr::Instr;
 use qm_parse::{Node, What};
-use std::alloc::Global;
 
 /// How many of the nodes behind a node belong to it; the first of them has this number.
 pub(crate) fn own_len(node: Node, number: usize, rest: usize) -> usize
@@ -50,20 +49,21 @@ pub(crate) fn after(nodes: &[Node], count: usize) -> &[Node]
 /// Expands a body; its nodes have numbers from `number` on.
 #[cycle(walk)]
 pub(crate) fn body(
-    alloc: Global,
     context: &Context<'_>,
     number: usize,
     nodes: &[Node],
+    stacks: &mut Stacks,
     draft: &mut Draft,
 ) -> Result<(), ReadError>
-    requires words { AreWords context.now }
+    requires words { AreWords context.now.source }
     requires rank { context.now.scope.rank < context.now.scope.ranks }
     requires ranks { context.now.scope.ranks ≡ length draft.old.input.ranks }
     requires few { number + length nodes.now < 2 ^ 40 }
     ensures answers { (n : ℕ) → length nodes.now ≤ n → Answers (λ _. draft_seen draft.new) result
-        (walk (words_of context.now) (word_lines context.now) n (scope_in context.now)
+        (walk (words_of context.now.source) n (scope_in context.now stacks.old.names.items)
         number nodes.now (draft_seen draft.old)) }
     ensures ranks { OnOk result (length draft.new.input.ranks ≡ length draft.old.input.ranks) }
+    ensures names { OnOk result (stacks.new.names.items ≡ stacks.old.names.items) }
 {
     let mut rest = nodes;
     let mut at = number;
@@ -73,7 +73,7 @@ pub(crate) fn body(
         at += 1;
         let len = own_len(node, at, behind.len());
         let own = upto(behind, len);
-        step(alloc, context, at, node, own, draft)?;
+        step(context, at, node, own, stacks, draft)?;
         at += len;
         rest = after(behind, len);
     }
@@ -83,58 +83,67 @@ pub(crate) fn body(
 /// Expands an instruction, a collective or a loop, which has these nodes behind its first one.
 #[cycle(walk)]
 fn step(
-    alloc: Global,
     context: &Context<'_>,
     number: usize,
     node: Node,
     own: &[Node],
+    stacks: &mut Stacks,
     draft: &mut Draft,
 ) -> Result<(), ReadError>
-    requires words { AreWords context.now }
+    requires words { AreWords context.now.source }
     requires rank { context.now.scope.rank < context.now.scope.ranks }
     requires ranks { context.now.scope.ranks ≡ length draft.old.input.ranks }
     requires few { number + length own.now < 2 ^ 40 }
     ensures answers { (n : ℕ) → length own.now ≤ n → Answers (λ _. draft_seen draft.new) result
-        (stepped (words_of context.now) (word_lines context.now)
-        (walk (words_of context.now) (word_lines context.now) n) (scope_in context.now)
+        (stepped (words_of context.now.source)
+        (walk (words_of context.now.source) n) (scope_in context.now stacks.old.names.items)
         number node own.now (draft_seen draft.old)) }
     ensures ranks { OnOk result (length draft.new.input.ranks ≡ length draft.old.input.ranks) }
+    ensures names { OnOk result (stacks.new.names.items ≡ stacks.old.names.items) }
 {
     match node.what {
-        What::For => turn_loop(alloc, context, number, node, own, draft),
-        _ => call(alloc, context, node, own, draft),
+        What::For => turn_loop(context, number, node, own, stacks, draft),
+        _ => call(
+            context,
+            &stacks.names,
+            &mut stacks.numbers,
+            node,
+            own,
+            draft,
+        ),
     }
 }
 
 /// Expands a loop: its bounds, and then its body for each turn.
 #[cycle(walk)]
 fn turn_loop(
-    alloc: Global,
     context: &Context<'_>,
     number: usize,
     node: Node,
     own: &[Node],
+    stacks: &mut Stacks,
     draft: &mut Draft,
 ) -> Result<(), ReadError>
-    requires words { AreWords context.now }
+    requires words { AreWords context.now.source }
     requires rank { context.now.scope.rank < context.now.scope.ranks }
     requires ranks { context.now.scope.ranks ≡ length draft.old.input.ranks }
     requires few { number + length own.now < 2 ^ 40 }
     ensures answers { (n : ℕ) → length own.now ≤ n → Answers (λ _. draft_seen draft.new) result
-        (looped (words_of context.now) (word_lines context.now)
-        (walk (words_of context.now) (word_lines context.now) n) (scope_in context.now)
+        (looped (words_of context.now.source)
+        (walk (words_of context.now.source) n) (scope_in context.now stacks.old.names.items)
         number node own.now (draft_seen draft.old)) }
     ensures ranks { OnOk result (length draft.new.input.ranks ≡ length draft.old.input.ranks) }
+    ensures names { OnOk result (stacks.new.names.items ≡ stacks.old.names.items) }
 {
-    let line = line(context.tokens, node.token);
-    let first = value(alloc, context, line, own)?;
+    let line = line(&context.source, node.token);
+    let first = value(context, &stacks.names, &mut stacks.numbers, line, own)?;
     let rest = after(own, first.used);
-    let end = value(alloc, context, line, rest)?;
+    let end = value(context, &stacks.names, &mut stacks.numbers, line, rest)?;
     let inner = after(rest, end.used);
     let start = number + first.used + end.used;
     for k in 0..turn_count(first, end) {
         let name = turn_name(node, first, end, k);
-        turn(alloc, context, line, name, start, inner, draft)?;
+        turn(context, line, name, start, inner, stacks, draft)?;
     }
     Ok(())
 }
@@ -142,33 +151,30 @@ fn turn_loop(
 /// Expands the body of a loop for one turn, which is counted first.
 #[cycle(walk)]
 fn turn(
-    alloc: Global,
     context: &Context<'_>,
     line: u32,
     name: Binding,
     number: usize,
     inner: &[Node],
+    stacks: &mut Stacks,
     draft: &mut Draft,
 ) -> Result<(), ReadError>
-    requires words { AreWords context.now }
+    requires words { AreWords context.now.source }
     requires rank { context.now.scope.rank < context.now.scope.ranks }
     requires ranks { context.now.scope.ranks ≡ length draft.old.input.ranks }
     requires few { number + length inner.now < 2 ^ 40 }
     ensures answers { (n : ℕ) → length inner.now ≤ n → Answers (λ _. draft_seen draft.new) result
-        (turned (walk (words_of context.now) (word_lines context.now) n) line
-        (inside (scope_in context.now) (words_of context.now name.token) name.value)
+        (turned (walk (words_of context.now.source) n) line
+        (inside (scope_in context.now stacks.old.names.items) ((words_of context.now.source).bytes name.token) name.value)
         number inner.now (draft_seen draft.old)) }
     ensures ranks { OnOk result (length draft.new.input.ranks ≡ length draft.old.input.ranks) }
+    ensures names { OnOk result (stacks.new.names.items ≡ stacks.old.names.items) }
 {
     draft.turn(line)?;
-    let names = with_name(alloc, context.names, name)?;
-    let inside = Context {
-        text: context.text,
-        tokens: context.tokens,
-        scope: context.scope,
-        names: names.as_slice(),
-    };
-    body(alloc, &inside, number, inner, draft)
+    push_name(&mut stacks.names, name)?;
+    let done = body(context, number, inner, stacks, draft);
+    stacks.names.pop();
+    done
 }
 
 /// How many turns a loop has between its bounds.
@@ -193,28 +199,8 @@ fn turn_name(node: Node, first: Valued, end: Valued, k: u64) -> Binding
     }
 }
 
-/// The names, and one more.
-fn with_name(alloc: Global, names: &[Binding], name: Binding) -> Result<Vec<Binding>, ReadError>
-    ensures { Answers (λ v. v.items) result (Ok (names.now ++ name ∷ [])) }
-{
-    let mut all = copied(alloc, names)?;
-    push_name(&mut all, name)?;
-    Ok(all)
-}
-
-/// A list of the same names.
-fn copied(alloc: Global, names: &[Binding]) -> Result<Vec<Binding>, ReadError>
-    ensures { Answers (λ v. v.items) result (Ok names.now) }
-{
-    let mut all = Vec::new(alloc);
-    for name in names {
-        push_name(&mut all, *name)?;
-    }
-    Ok(all)
-}
-
 /// Appends a name.
-fn push_name(names: &mut Vec<Binding>, name: Binding) -> Result<(), ReadError>
+fn push_name(names: &mut Names, name: Binding) -> Result<(), ReadError>
     ensures { Answers (λ _. names.new.items) result (Ok (names.old.items ++ name ∷ [])) }
 {
     match names.push(name) {
@@ -225,60 +211,62 @@ fn push_name(names: &mut Vec<Binding>, name: Binding) -> Result<(), ReadError>
 
 /// Expands an instruction or a collective.
 fn call(
-    alloc: Global,
     context: &Context<'_>,
+    names: &Names,
+    numbers: &mut Vec<i64>,
     node: Node,
     own: &[Node],
     draft: &mut Draft,
 ) -> Result<(), ReadError>
-    requires words { AreWords context.now }
+    requires words { AreWords context.now.source }
     requires rank { context.now.scope.rank < context.now.scope.ranks }
     requires ranks { context.now.scope.ranks ≡ length draft.old.input.ranks }
     ensures answers { Answers (λ _. draft_seen draft.new) result
-        (called (words_of context.now) (word_lines context.now) (scope_in context.now)
+        (called (words_of context.now.source) (scope_in context.now names.now.items)
         node own.now (draft_seen draft.old)) }
     ensures ranks { OnOk result (length draft.new.input.ranks ≡ length draft.old.input.ranks) }
 {
-    let Some(verb) = verb(context.text, context.tokens, node.token) else {
+    let Some(verb) = context.source.tree.verb(node.token) else {
         return Ok(());
     };
-    let line = line(context.tokens, node.token);
-    let found = gather(alloc, context, line, verb.operands, own)?;
+    let line = line(&context.source, node.token);
+    let found = gather(context, names, numbers, line, verb.operands, own)?;
     match make(verb.action, &found) {
         Operation::Core(i) => draft.add(line, context.scope.rank, i),
         Operation::Shared(which) => draft.share(line, context.scope, which),
         Operation::Nothing => {
             let bit = small(&found, 0);
             let rest = &own[found.used..];
-            call_gate(alloc, context, line, bit, rest, draft)
+            call_gate(context, names, numbers, line, bit, rest, draft)
         }
     }
 }
 
 /// Expands the gate under a bit, at the front of these nodes.
 fn call_gate(
-    alloc: Global,
     context: &Context<'_>,
+    names: &Names,
+    numbers: &mut Vec<i64>,
     line: u32,
     bit: u8,
     nodes: &[Node],
     draft: &mut Draft,
 ) -> Result<(), ReadError>
-    requires words { AreWords context.now }
+    requires words { AreWords context.now.source }
     requires rank { context.now.scope.rank < context.now.scope.ranks }
     requires ranks { context.now.scope.ranks ≡ length draft.old.input.ranks }
     ensures answers { Answers (λ _. draft_seen draft.new) result
-        (gated (words_of context.now) line (scope_in context.now)
+        (gated (words_of context.now.source) line (scope_in context.now names.now.items)
         bit nodes.now (draft_seen draft.old)) }
     ensures ranks { OnOk result (length draft.new.input.ranks ≡ length draft.old.input.ranks) }
 {
     if nodes.is_empty() {
         return Ok(());
     }
-    let Some(verb) = verb(context.text, context.tokens, nodes[0].token) else {
+    let Some(verb) = context.source.tree.verb(nodes[0].token) else {
         return Ok(());
     };
-    let found = gather(alloc, context, line, verb.operands, &nodes[1..])?;
+    let found = gather(context, names, numbers, line, verb.operands, &nodes[1..])?;
     match gate_made(verb.action, &found) {
         None => Ok(()),
         Some(g) => draft.add(line, context.scope.rank, Instr::When { b: bit, g }),

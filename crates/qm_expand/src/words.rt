@@ -1,25 +1,30 @@
 //! The words of a text, by the numbers of their tokens.
 
 ghost use Rattle.std.specs.Prelude.{◌≡◌, ◌≤◌, length, slice_range};
-ghost use Rattle.qm_lex.specs.Lexing.{token_list};
-ghost use Rattle.qm_lex.specs.Spans.{LieIn};
-ghost use Rattle.qm_expand.specs.Reading.{lines_of};
-ghost use Rattle.qm_expand.specs.Walk.{bytes_in, verb_in};
+ghost use Rattle.qm_expand.specs.Views.{AreWords, words_of};
 
 use qm_lex::Tokens;
-use qm_parse::{Reserved, Verb, Version, reserved_of};
+use qm_parse::Tree;
+
+/// A text, its tokens and its source tree.
+#[derive(Clone, Copy)]
+pub(crate) struct Source<'a> {
+    pub(crate) text: &'a [u8],
+    pub(crate) tokens: &'a Tokens,
+    pub(crate) tree: &'a Tree,
+}
 
 /// The bytes of a token; none where there are not as many tokens.
-pub(crate) fn bytes<'a>(text: &'a [u8], tokens: &Tokens, token: usize) -> &'a [u8]
-    requires { LieIn text.now (token_list tokens.now) }
-    ensures { result.now ≡ bytes_in text.now (token_list tokens.now) token }
+pub(crate) fn bytes<'a>(source: &Source<'a>, token: usize) -> &'a [u8]
+    requires { AreWords source.now }
+    ensures { result.now ≡ (words_of source.now).bytes token }
 {
-    if token >= tokens.len() as usize {
-        return &text[..0];
+    if token >= source.tokens.len() as usize {
+        return &source.text[..0];
     }
-    match tokens.token(token as u32) {
-        None => &text[..0],
-        Some(found) => part(text, found.start as usize, found.stop as usize),
+    match source.tokens.token(token as u32) {
+        None => &source.text[..0],
+        Some(found) => part(source.text, found.start as usize, found.stop as usize),
     }
 }
 
@@ -33,22 +38,11 @@ fn part(text: &[u8], start: usize, stop: usize) -> &[u8]
 }
 
 /// The line of a token; 0 where there are not as many tokens.
-pub(crate) fn line(tokens: &Tokens, token: u32) -> u32
-    ensures { result ≡ lines_of (token_list tokens.now) token }
+pub(crate) fn line(source: &Source<'_>, token: u32) -> u32
+    ensures { result ≡ (words_of source.now).lines token }
 {
-    match tokens.token(token) {
+    match source.tokens.token(token) {
         None => 0,
         Some(found) => found.line,
-    }
-}
-
-/// What a token's word does, if it is an instruction or a collective.
-pub(crate) fn verb(text: &[u8], tokens: &Tokens, token: u32) -> Option<Verb>
-    requires { LieIn text.now (token_list tokens.now) }
-    ensures { result ≡ verb_in (bytes_in text.now (token_list tokens.now) token) }
-{
-    match reserved_of(Version::One, bytes(text, tokens, token as usize)) {
-        Some(Reserved::Verb(verb)) => Some(verb),
-        _ => None,
     }
 }

@@ -6,6 +6,7 @@ use Rattle.qm_instr.specs.declared.OneGate.TheVariants as one
 use Rattle.qm_instr.specs.declared.Gate.TheVariants as gate
 use Rattle.qm_instr.specs.declared.Instr.{Instr}
 use Rattle.qm_instr.specs.declared.Instr.TheVariants as instr
+use Rattle.qm_parse.specs.declared.words.Version.TheVariants as version
 use Rattle.qm_parse.specs.declared.words.Action.{Action}
 use Rattle.qm_parse.specs.declared.words.Action.TheVariants as action
 use Rattle.qm_parse.specs.declared.words.Operand.TheVariants as operand
@@ -145,9 +146,10 @@ drawn_tapes (t ∷ ts) w = tape_lines_in t.own t.rank (outcomes t.len w) ++ draw
 
 abbrev pub made_tree : GenKind → ℕ → Words → Program
 made_tree kind size w = record {
+  version = version.One;
   ranks = ranks_of kind size;
-  qubits = 1;
-  buffer = 1;
+  qubits = 1 ∷ [];
+  buffers = 1 ∷ [];
   blocks = ForEach (map (part_body size) (parts kind size));
   tapes = drawn_tapes (tapes kind size) w;
 }

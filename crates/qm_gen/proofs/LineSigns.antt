@@ -1,5 +1,5 @@
 -- The signs of a line, without places: what each token of the line says
-use Rattle.std.proofs.Common.{◌≡◌, ℕ, zero, suc, ◌+◌, ◌-◌, ◌≤◌, Bool, true, false, cond, List, [], ◌∷◌, ◌++◌, length, take, drop, Option, Some, None, Result, Ok, Err, refl, ◌∙◌, ap, arith, length-drop}
+use Rattle.std.proofs.Common.{◌≡◌, ℕ, zero, suc, ◌+◌, ◌-◌, ◌≤◌, Bool, true, false, cond, List, [], ◌∷◌, ◌++◌, length, map, take, drop, Option, Some, None, Result, Ok, Err, refl, ◌∙◌, ap, arith, length-drop}
 use Rattle.std.specs.Prelude.{if◌then◌else◌, ◌==◌, take_while}
 use Rattle.std.specs.List.{prefix_len}
 use Rattle.std.proofs.lemmas.List.Folds.{length-prefix_len}
@@ -10,7 +10,7 @@ use Rattle.qm_lex.specs.Bytes.{is_blank, is_digit, is_letter, is_word_byte, is_s
 use Rattle.qm_lex.specs.Pieces.{begins_with}
 use Rattle.qm_lex.specs.Lexing.{with_first, line_after, behind, lexed}
 use Rattle.qm_parse.specs.declared.words.Version.TheVariants as version
-use Rattle.qm_parse.specs.Signs.{Sign, sign, bytes_of, signs_of}
+use Rattle.qm_parse.specs.Signs.{Sign, sign, bytes_of, sign_of}
 
 -- what stands at the front of a line behind its first byte: so many bytes more of a gap or of a token
 pub data Front : Type 0 where
@@ -119,7 +119,7 @@ front-within b xs =
 pub record IsLexed (whole : List ℕ) (m at line : ℕ) (text : List ℕ) (ss : List Sign) : Type 0 where
   pub tokens : List Token
   pub lexes : lexed m at line text ≡ Ok tokens
-  pub signs : signs_of whole tokens ≡ ss
+  pub signs : map (sign_of version.One whole) tokens ≡ ss
 
 unfoldable pub HasSigns : List ℕ → ℕ → List ℕ → List Sign → Type 0
 HasSigns whole at text ss = (m line : ℕ) → length text ≤ m → IsLexed whole m at line text ss
@@ -147,5 +147,5 @@ part-lexed whole at b k kind xs rest ss e there h (suc n) line few =
     record {
       tokens = t ∷ more.tokens;
       lexes = lexed-front n at line b xs rest ∙ ap (lexed_behind n at line b (xs ++ 10 ∷ rest)) e ∙ ap (with_first t) more.lexes;
-      signs = ap (λ x. sign version.One kind x ∷ signs_of whole more.tokens) bytes ∙ ap (λ x. sign version.One kind (take (k + 1) text) ∷ x) more.signs;
+      signs = ap (λ x. sign version.One kind x ∷ map (sign_of version.One whole) more.tokens) bytes ∙ ap (λ x. sign version.One kind (take (k + 1) text) ∷ x) more.signs;
     }

@@ -4,7 +4,7 @@ use Rattle.std.specs.Prelude.{if◌then◌else◌}
 use Rattle.std.specs.List.{AllByRecursion}
 use Rattle.std.proofs.lemmas.Bool.{ltb-true}
 use Rattle.std.proofs.lemmas.List.{length-map}
-use Rattle.std.proofs.lemmas.List.Elements.{All-from_recursion}
+use Rattle.std.proofs.lemmas.List.Elements.{All-from_recursion, All-replicate}
 use Rattle.qm_parse.specs.declared.words.Action.{Action}
 use Rattle.qm_parse.specs.declared.words.Action.TheVariants as action
 use Rattle.qm_parse.specs.declared.words.Mark.{Mark}
@@ -123,13 +123,14 @@ made-may kind size w h small =
     let most = ranks-most kind size h in
     let few = size-small kind size h in
     let bodies : List Body = map (part_body size) (parts kind size) in
+    let one : 1 ≤ 1 = omega arith in
+    let few_slots : 1 ≤ 16 = omega arith in
+    let few_halves : 1 ≤ 8 = omega arith in
     record {
       some_ranks = least;
       few_ranks = omega arith;
-      some_qubits = omega arith;
-      few_qubits = omega arith;
-      some_buffer = omega arith;
-      small_buffer = omega arith;
+      qubits = record { count = refl; each = All-replicate (λ n. (1 ≤ n) × (n ≤ 16)) 1 1 (one, few_slots) };
+      buffers = record { count = refl; each = All-replicate (λ n. (1 ≤ n) × (n ≤ 8)) 1 1 (one, few_halves) };
       blocks = (length-map (parts kind size) (part_body size) ∙ parts-length kind size, All-from_recursion BodyMay bodies (bodies-may size (parts kind size) (omega arith) small));
       tapes = All-from_recursion (λ (t : TapeLine). t.rank < ranks_of kind size) (drawn_tapes (tapes kind size) w) (tapes-may (ranks_of kind size) (tapes kind size) w (low-tapes kind size));
     }

@@ -11,11 +11,12 @@ use Rattle.qm_parse.specs.Signs.{Sign, signs_of}
 use Rattle.qm_parse.specs.Faults.{Spells, IsShallow}
 use Rattle.qm_expand.specs.Steps.{Outcome, ◌>>=◌}
 use Rattle.qm_expand.specs.Drafts.{Draft, draft}
-use Rattle.qm_expand.specs.Expansion.{Lines, each_expanded, with_tapes, expanded}
+use Rattle.qm_expand.specs.Expansion.{Lines, each_expanded, with_tapes, sized_ranks, expanded}
 use Rattle.qm_expand.specs.Reading.{lines_of}
+use Rattle.qm_expand.proofs.SignLemmas.{older-signs}
 use Rattle.qm_gen.specs.declared.GenKind.{GenKind}
 use Rattle.qm_seed.specs.Seeds.{Words}
-use Rattle.qm_gen.specs.Sizes.{IsSize}
+use Rattle.qm_gen.specs.Sizes.{IsSize, ranks_of}
 use Rattle.qm_gen.specs.Made.{tapes, made_text}
 use Rattle.qm_gen.specs.Laws.{IsReadyText}
 use Rattle.qm_gen.proofs.Deeds.{Deed, Alloc, Gate, Measure, WhenX, MoveTo, MoveFrom, CopyTo, CopyFrom, ReachTo, ReachFrom, instr_of, Part, part_body, parts, drawn_tapes, made_tree}
@@ -120,21 +121,27 @@ made-in_range kind size w h =
     }
 
 -- ---- the text is read to them
+idle-sized : (n : ℕ) → sized_ranks (replicate n 1) (replicate n 1) ≡ replicate n idle_rank
+idle-sized zero = refl
+idle-sized (suc n) = ap (λ rs. idle_rank ∷ rs) (idle-sized n)
+
 made-expanded : (lines : Lines) (kind : GenKind) (size : ℕ) (w : Words) → IsSize kind size → expanded lines (made_tree kind size w) ≡ Ok (made_programs kind size w)
 made-expanded lines kind size w h =
     let ps = parts kind size in
     let finish : Outcome Draft → Outcome Programs = λ o. o >>= λ d. Ok (with_tapes (drawn_tapes (tapes kind size) w) d.programs) in
-    ap (λ n. finish (each_expanded lines 8 (map (part_body size) ps) 0 (draft (record { version = 1; ranks = replicate n idle_rank }) 0))) (sym (parts-length kind size))
+    ap (λ (rs : List RankProgram). finish (each_expanded lines 8 (map (part_body size) ps) 0 (draft (record { version = 1; ranks = rs }) 0))) (idle-sized (ranks_of kind size))
+    ∙ ap (λ n. finish (each_expanded lines 8 (map (part_body size) ps) 0 (draft (record { version = 1; ranks = replicate n idle_rank }) 0))) (sym (parts-length kind size))
     ∙ ap finish (ranks-expanded lines 8 0 size [] ps (made-fits kind size h))
     ∙ ap Ok (tapes-are (tapes kind size) w (record { version = 1; ranks = rows size ps }))
 
 pub made-ready : (kind : GenKind) (size : ℕ) (w : Words) → IsSize kind size → IsReadyText (made_text kind size w)
 made-ready kind size w h =
     let t = made-tokens kind size w h in
+    let signs = older-signs (made_text kind size w) t.tokens _ _ t.signs in
     let spells : Spells (signs_of (made_text kind size w) t.tokens) (made_tree kind size w) = record {
-      spelled = sym t.signs;
+      spelled = sym signs;
       may = made-may kind size w h (made-small kind size h);
-      shallow = subst (λ (ss : List Sign). IsShallow 0 ss) (sym t.signs) (made-shallow kind size w h);
+      shallow = subst (λ (ss : List Sign). IsShallow 0 ss) (sym signs) (made-shallow kind size w h);
     } in
     record {
       short = made-short kind size w h;

@@ -1,10 +1,10 @@
 -- The signs of a text's tokens, line by line
-use Rattle.std.proofs.Common.{◌≡◌, ℕ, zero, suc, ◌+◌, ◌≤◌, List, [], ◌∷◌, ◌++◌, length, take, drop, Option, Some, None, Ok, refl, sym, ◌∙◌, ap, subst, arith, length-drop, append_assoc}
+use Rattle.std.proofs.Common.{◌≡◌, ℕ, zero, suc, ◌+◌, ◌≤◌, List, [], ◌∷◌, ◌++◌, length, map, take, drop, Option, Some, None, Ok, refl, sym, ◌∙◌, ap, subst, arith, length-drop, append_assoc}
 use Rattle.std.proofs.lemmas.List.{drop-drop, take-append-le, drop-append-le}
 use Rattle.qm_lex.specs.declared.tokens.Token.{Token}
 use Rattle.qm_lex.specs.Lexing.{tokens_of}
 use Rattle.qm_parse.specs.declared.words.Version.TheVariants as version
-use Rattle.qm_parse.specs.Signs.{Sign, sign, signs_of}
+use Rattle.qm_parse.specs.Signs.{Sign, sign, sign_of}
 use Rattle.qm_gen.specs.Made.{Lines, lines_text}
 use Rattle.qm_gen.proofs.LineSigns.{Front, Skip, Take, Nothing, front, with_sign, behind_front, line_signs, IsWithin, front-within, IsLexed, HasSigns, gap-lexed, part-lexed}
 
@@ -105,7 +105,7 @@ lines-lexed whole at (l ∷ ls) us e there m line few =
 pub record HasTokens (text : List ℕ) (ss : List Sign) : Type 0 where
   pub tokens : List Token
   pub are : tokens_of text ≡ Ok tokens
-  pub signs : signs_of text tokens ≡ ss
+  pub signs : map (sign_of version.One text) tokens ≡ ss
 
 -- lines with these signs have tokens with these signs
 pub lines-tokens : (ls : Lines) (ss : List Sign) → lines_signs ls ≡ Some ss → HasTokens (lines_text ls) ss

@@ -22,7 +22,7 @@ use Rattle.qm_proto.proofs.Changes.{by_lane, by_number, with_at-here, with_at-el
 use Rattle.qm_proto.proofs.Positions.{all_at_kept, all_stage_kept}
 use Rattle.qm_confluence.specs.Stuck.Shapes.{moves, Shape, shape_of}
 use Rattle.qm_ideal.specs.Meetings.{Stand, has_bits, stand_of, last_set, lanes_after, shape_in, shape_next, is_wanted_at, rule_holds, shape_holds, may_go, gone, go}
-use Rattle.qm_confluence.proofs.Stuck.Rendezvous.{one_rank, small}
+use Rattle.qm_confluence.proofs.Stuck.Rendezvous.{one_rank}
 use Rattle.qm_confluence.proofs.Stuck.Shapes.{rows_shapes}
 
 -- ---- the lines of an instruction have its shapes

@@ -1,8 +1,6 @@
 -- What the code's steps mean in the model of the ideal run
-use Rattle.std.specs.Prelude.{◌<◌, Bool, true, false, List, [], ◌∷◌, Option, Some, None}
+use Rattle.std.specs.Prelude.{◌<◌, List, [], ◌∷◌, Option, Some, None}
 use Rattle.qm_limits.specs.declared.TheConstants.{SLOTS, BITS}
-use Rattle.qm_instr.specs.declared.Instr.{Instr}
-use Rattle.qm_instr.specs.declared.Instr.TheVariants as instr
 use Rattle.qm_proto.specs.Model.Ideal as model
 use Rattle.qm_proto.specs.Model.Ideal.{IdealRule, IdealAct}
 use Rattle.qm_ideal.specs.declared.steps.Load as code
@@ -38,26 +36,6 @@ act_meant (act.Puts a x) = model.Puts a (load_meant x)
 act_meant (act.Takes a) = model.Takes a
 act_meant act.OwnUsed = model.OwnUsed
 act_meant (act.BitSet b v) = model.BitSet b v
-
--- whether an instruction is the end of a message
-abbrev pub is_message : Instr → Bool
-is_message (instr.SendBit b to tag) = true
-is_message (instr.RecvBit b from tag) = true
-is_message (instr.CopyTo q to tag) = true
-is_message (instr.CopyFrom q from tag) = true
-is_message (instr.UndoTo q to tag) = true
-is_message (instr.UndoFrom q from tag) = true
-is_message (instr.MoveTo q to tag) = true
-is_message (instr.MoveFrom q from tag) = true
-is_message (instr.ReachTo q to tag) = true
-is_message (instr.ReachFrom q from tag) = true
-is_message (instr.Alloc q) = false
-is_message (instr.Free q) = false
-is_message (instr.Do g) = false
-is_message (instr.Measure q b) = false
-is_message (instr.Set b v) = false
-is_message (instr.Xor b c) = false
-is_message (instr.When b g) = false
 
 -- the act's slot or bit is one that there may be
 abbrev pub IsSmall : IdealAct → Type 0

@@ -42,10 +42,6 @@ abbrev pub bits_in : Option Rank → List Bool
 bits_in None = replicate BITS false
 bits_in (Some k) = k.bits
 
--- the bits of a list's rank
-abbrev pub bits_at : List Rank → ℕ → List Bool
-bits_at ranks r = bits_in (slice_get ranks r)
-
 -- the ideal tables, as a run of these programs keeps them
 abbrev pub tables_of : Programs → Tables → IdealTables
 tables_of p t =

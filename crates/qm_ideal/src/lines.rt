@@ -1,10 +1,10 @@
 //! What each event of an instruction waits for, and what it does to lanes.
-ghost use Rattle.std.specs.Prelude.{◌≡◌, true, false, [], ◌∷◌, map, take, slice_get};
-ghost use Rattle.qm_instr.specs.Lanes.{lane};
+ghost use Rattle.std.specs.Prelude.{◌≡◌, true, false, Some, [], ◌∷◌, map, take, slice_get};
+ghost use Rattle.qm_instr.specs.Lanes.{lane_sent, lane_received};
 ghost use Rattle.qm_confluence.specs.Stuck.Shapes.{shapes};
 ghost use Rattle.qm_ideal.specs.MeetingViews.{line_meant, line_in};
 
-use qm_instr::{Instr, Kind, Lane};
+use qm_instr::{Instr, Kind, Lane, receive_lane, send_lane};
 use qm_proto::Rule;
 
 /// What an event does to a lane.
@@ -40,15 +40,12 @@ struct Lines {
     count: usize,
 }
 
-/// The lane of this kind and tag from one rank to another.
-fn lane(from: u16, to: u16, kind: Kind, tag: u16) -> Lane
-    ensures { result ≡ lane from to kind tag }
-{
-    Lane {
-        from,
-        to,
-        kind,
-        tag,
+impl Lines {
+    /// The first so many of these.
+    fn new(lines: [Line; 5], count: usize) -> Lines
+        ensures { result ≡ record { lines = lines; count = count } }
+    {
+        Lines { lines, count }
     }
 }
 
@@ -108,24 +105,43 @@ fn first(line: Line, count: usize) -> Lines
     ensures count { result.count ≡ count }
 {
     let s = Line::STILL;
-    Lines {
-        lines: [line, s, s, s, s],
-        count,
+    Lines::new([line, s, s, s, s], count)
+}
+
+/// The events of an instruction that sends on this lane.
+fn sending(rank: u16, instr: Instr, lane: Lane) -> Lines
+    requires { lane_sent rank instr ≡ Some lane }
+    ensures { map line_meant (take result.count result.lines) ≡ shapes rank instr }
+{
+    let s = Line::STILL;
+    match instr {
+        Instr::SendBit { .. } => first(post(lane), 1),
+        Instr::CopyTo { .. } => Lines::new([pair(lane), s, tell(lane), s, s], 3),
+        Instr::UndoTo { .. } => Lines::new([meet(lane), post(lane), s, s, s], 2),
+        Instr::MoveTo { .. } => Lines::new([pair(lane), s, s, s, tell(lane)], 5),
+        Instr::ReachTo { to, tag, .. } => {
+            let back = Lane::new(to, rank, Kind::Back, tag);
+            Lines::new([pair(lane), s, tell(lane), deliver(back), s], 5)
+        }
+        _ => unreachable!(),
     }
 }
 
-/// The lines of a send that begins with a pair, for so many events.
-fn sending(lane: Lane, count: usize) -> Lines
-    ensures lines { result.lines
-        ≡ record { rule = Rule.PairRoom lane; act = Some (Move.Puts lane false) } ∷ Line.STILL
-        ∷ record { rule = Rule.Always; act = Some (Move.Tells lane) } ∷ Line.STILL ∷ Line.STILL
-        ∷ [] }
-    ensures count { result.count ≡ count }
+/// The events of an instruction that receives on this lane.
+fn receiving(rank: u16, instr: Instr, lane: Lane) -> Lines
+    requires { lane_received rank instr ≡ Some lane }
+    ensures { map line_meant (take result.count result.lines) ≡ shapes rank instr }
 {
     let s = Line::STILL;
-    Lines {
-        lines: [pair(lane), s, tell(lane), s, s],
-        count,
+    match instr {
+        Instr::RecvBit { .. } => first(deliver(lane), 1),
+        Instr::CopyFrom { .. } | Instr::UndoFrom { .. } => first(deliver(lane), 2),
+        Instr::MoveFrom { .. } => first(deliver(lane), 3),
+        Instr::ReachFrom { from, tag, .. } => {
+            let back = Lane::new(rank, from, Kind::Back, tag);
+            Lines::new([deliver(lane), s, s, s, post(back)], 5)
+        }
+        _ => unreachable!(),
     }
 }
 
@@ -133,48 +149,10 @@ fn sending(lane: Lane, count: usize) -> Lines
 fn events_of(rank: u16, instr: Instr) -> Lines
     ensures { map line_meant (take result.count result.lines) ≡ shapes rank instr }
 {
-    match instr {
-        Instr::SendBit { to, tag, .. } => first(post(lane(rank, to, Kind::Bit, tag)), 1),
-        Instr::RecvBit { from, tag, .. } => first(deliver(lane(from, rank, Kind::Bit, tag)), 1),
-        Instr::CopyTo { to, tag, .. } => sending(lane(rank, to, Kind::Copy, tag), 3),
-        Instr::CopyFrom { from, tag, .. } => first(deliver(lane(from, rank, Kind::Copy, tag)), 2),
-        Instr::UndoTo { to, tag, .. } => {
-            let lane = lane(rank, to, Kind::Undo, tag);
-            let s = Line::STILL;
-            Lines {
-                lines: [meet(lane), post(lane), s, s, s],
-                count: 2,
-            }
-        }
-        Instr::UndoFrom { from, tag, .. } => first(deliver(lane(from, rank, Kind::Undo, tag)), 2),
-        Instr::MoveTo { to, tag, .. } => {
-            let lane = lane(rank, to, Kind::Move, tag);
-            let s = Line::STILL;
-            Lines {
-                lines: [pair(lane), s, s, s, tell(lane)],
-                count: 5,
-            }
-        }
-        Instr::MoveFrom { from, tag, .. } => first(deliver(lane(from, rank, Kind::Move, tag)), 3),
-        Instr::ReachTo { to, tag, .. } => {
-            let there = lane(rank, to, Kind::Reach, tag);
-            let back = lane(to, rank, Kind::Back, tag);
-            let s = Line::STILL;
-            Lines {
-                lines: [pair(there), s, tell(there), deliver(back), s],
-                count: 5,
-            }
-        }
-        Instr::ReachFrom { from, tag, .. } => {
-            let there = lane(from, rank, Kind::Reach, tag);
-            let back = lane(rank, from, Kind::Back, tag);
-            let s = Line::STILL;
-            Lines {
-                lines: [deliver(there), s, s, s, post(back)],
-                count: 5,
-            }
-        }
-        _ => first(Line::STILL, 1),
+    match (send_lane(rank, instr), receive_lane(rank, instr)) {
+        (Some(lane), _) => sending(rank, instr, lane),
+        (None, Some(lane)) => receiving(rank, instr, lane),
+        (None, None) => first(Line::STILL, 1),
     }
 }
 

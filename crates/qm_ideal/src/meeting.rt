@@ -15,7 +15,7 @@ use crate::lines::{Line, Move, line_at};
 use crate::run::receives;
 use qm_check::Ready;
 use qm_instr::{Input, Instr, Lane, event_count};
-use qm_proto::Rule;
+use qm_proto::{Rule, has_event_after};
 use std::alloc::{AllocError, Global};
 
 /// The number of a rank's next instruction, and how many events of it were done.
@@ -174,7 +174,7 @@ impl Meeting {
         ensures ranks { length self.new.places.items ≡ length self.old.places.items }
     {
         let place = &mut self.places[usize::from(rank)];
-        if place.stage + 1 < events {
+        if has_event_after(place.stage, events) {
             place.stage += 1;
         } else {
             place.at += 1;

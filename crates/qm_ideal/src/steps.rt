@@ -1,17 +1,17 @@
 //! The table of the steps: what a step of each instruction waits for, its letters, and its acts.
-ghost use Rattle.std.specs.Prelude.{◌≡◌, ◌<◌, length, map, Some, None, true, false};
-ghost use Rattle.qm_instr.specs.Lanes.{lane};
+ghost use Rattle.std.specs.Prelude.{◌≡◌, ◌<◌, length, map, Some, None};
+ghost use Rattle.qm_instr.specs.Lanes.{lane_sent, lane_received};
 ghost use Rattle.qm_instr.specs.Programs.{Programs};
 ghost use Rattle.qm_proto.specs.Model.Acts.{list_of};
 ghost use Rattle.qm_proto.specs.Model.Ideal.{IdealTables, ideal_row_of, ideal_wire_in, load_at, wire_carried};
-ghost use Rattle.qm_proto.specs.Model.Rows.{one_letter, gate_letter};
-ghost use Rattle.qm_ideal.specs.Meanings.{rule_meant, act_meant, is_message};
+ghost use Rattle.qm_proto.specs.Model.Rows.{gate_letter};
+ghost use Rattle.qm_ideal.specs.Meanings.{rule_meant, act_meant};
 ghost use Rattle.qm_ideal.specs.Views.{tables_of};
 
 use crate::tables::Tables;
 use qm_denot::{Letter, Wire};
-use qm_instr::{Gate, Input, Instr, Kind, Lane, OneGate};
-use qm_proto::Few;
+use qm_instr::{Gate, Input, Instr, Kind, Lane, receive_lane, send_lane};
+use qm_proto::{Few, gate_letter};
 
 /// What a lane holds.
 #[derive(Clone, Copy)]
@@ -61,79 +61,42 @@ pub(crate) struct Step {
     pub(crate) acts: Few<Act>,
 }
 
-/// The lane of this kind and tag from one rank to another.
-fn lane(from: u16, to: u16, kind: Kind, tag: u16) -> Lane
-    ensures { result ≡ lane from to kind tag }
-{
-    Lane {
-        from,
-        to,
-        kind,
-        tag,
-    }
-}
-
 /// What the step of an instruction of a rank waits for.
 pub(crate) fn rule_of(rank: u16, instr: Instr) -> Rule
     ensures { (p : Programs) (t : IdealTables) → (ideal_row_of p t rank instr).rule ≡ rule_meant result }
 {
     match instr {
         Instr::RecvBit { from, tag, .. } => Rule::Filled {
-            lane: lane(from, rank, Kind::Bit, tag),
+            lane: Lane::new(from, rank, Kind::Bit, tag),
         },
         Instr::CopyFrom { from, tag, .. } => Rule::Filled {
-            lane: lane(from, rank, Kind::Copy, tag),
+            lane: Lane::new(from, rank, Kind::Copy, tag),
         },
         Instr::UndoTo { to, tag, .. } => Rule::Engaged {
-            lane: lane(rank, to, Kind::Undo, tag),
+            lane: Lane::new(rank, to, Kind::Undo, tag),
         },
         Instr::UndoFrom { from, tag, .. } => Rule::Filled {
-            lane: lane(from, rank, Kind::Undo, tag),
+            lane: Lane::new(from, rank, Kind::Undo, tag),
         },
         Instr::MoveFrom { from, tag, .. } => Rule::Filled {
-            lane: lane(from, rank, Kind::Move, tag),
+            lane: Lane::new(from, rank, Kind::Move, tag),
         },
         Instr::ReachTo { to, tag, .. } => Rule::Filled {
-            lane: lane(to, rank, Kind::Back, tag),
+            lane: Lane::new(to, rank, Kind::Back, tag),
         },
         Instr::ReachFrom { from, tag, .. } => Rule::Lent {
-            lane: lane(from, rank, Kind::Reach, tag),
-            back: lane(rank, from, Kind::Back, tag),
+            lane: Lane::new(from, rank, Kind::Reach, tag),
+            back: Lane::new(rank, from, Kind::Back, tag),
         },
         _ => Rule::Always,
     }
 }
 
-/// The letter of a gate on one qubit.
-fn one_letter(gate: OneGate, w: Wire) -> Letter
-    ensures { result ≡ one_letter gate w }
-{
-    match gate {
-        OneGate::X => Letter::Flip { w },
-        OneGate::Z => Letter::Phase { k: 4, w },
-        OneGate::H => Letter::Had { w },
-        OneGate::S => Letter::Phase { k: 2, w },
-        OneGate::Sdg => Letter::Phase { k: 6, w },
-        OneGate::T => Letter::Phase { k: 1, w },
-        OneGate::Tdg => Letter::Phase { k: 7, w },
-    }
-}
-
 /// The letter of a gate on the slots of a rank.
-fn gate_letter(input: &Input, tables: &Tables, rank: u16, gate: Gate) -> Letter
+fn letter_of(input: &Input, tables: &Tables, rank: u16, gate: Gate) -> Letter
     ensures { result ≡ gate_letter (ideal_wire_in (tables_of input.now tables.now) rank) gate }
 {
-    match gate {
-        Gate::One { g, q } => one_letter(g, tables.wire_in(rank, q)),
-        Gate::Cx { c, t } => Letter::Cx {
-            c: tables.wire_in(rank, c),
-            t: tables.wire_in(rank, t),
-        },
-        Gate::Cz { c, t } => Letter::Cz {
-            c: tables.wire_in(rank, c),
-            t: tables.wire_in(rank, t),
-        },
-    }
+    gate_letter(gate, |q| tables.wire_in(rank, q))
 }
 
 /// A step without letters.
@@ -156,6 +119,20 @@ fn lettered(letter: Letter, acts: Few<Act>) -> Step
     }
 }
 
+/// Slot `q` is emptied.
+fn emptied(q: u8) -> Act
+    ensures { result ≡ Act.SlotSet q None }
+{
+    Act::SlotSet { q, wire: None }
+}
+
+/// A load goes to the end of a lane.
+fn put(lane: Lane, load: Load) -> Act
+    ensures { result ≡ Act.Puts lane load }
+{
+    Act::Puts { lane, load }
+}
+
 /// A step that takes the front wire of a lane into a slot.
 fn taking(input: &Input, tables: &Tables, lane: Lane, q: u8) -> Step
     ensures { let w = wire_carried (load_at (tables_of input.now tables.now) lane) in
@@ -168,15 +145,15 @@ fn taking(input: &Input, tables: &Tables, lane: Lane, q: u8) -> Step
     silent(Few::Two(Act::Takes { lane }, Act::SlotSet { q, wire }))
 }
 
-/// The step of an instruction that is done within its rank; of a message, one without letters and acts.
+/// The step of an instruction that is done within its rank.
 fn local_step(input: &Input, tables: &Tables, rank: u16, instr: Instr) -> Step
     requires same { length tables.now.ranks.items ≡ length input.now.ranks }
     requires known { rank < length input.now.ranks }
-    ensures letters { is_message instr ≡ false
-        → list_of result.letters
+    requires unsent { lane_sent rank instr ≡ None }
+    requires unreceived { lane_received rank instr ≡ None }
+    ensures letters { list_of result.letters
         ≡ (ideal_row_of input.now (tables_of input.now tables.now) rank instr).letters }
-    ensures acts { is_message instr ≡ false
-        → map act_meant (list_of result.acts)
+    ensures acts { map act_meant (list_of result.acts)
         ≡ (ideal_row_of input.now (tables_of input.now tables.now) rank instr).acts }
 {
     match instr {
@@ -189,9 +166,9 @@ fn local_step(input: &Input, tables: &Tables, rank: u16, instr: Instr) -> Step
                 w: tables.wire_in(rank, q),
                 m: false,
             },
-            Few::One(Act::SlotSet { q, wire: None }),
+            Few::One(emptied(q)),
         ),
-        Instr::Do { g } => lettered(gate_letter(input, tables, rank, g), Few::Empty),
+        Instr::Do { g } => lettered(letter_of(input, tables, rank, g), Few::Empty),
         Instr::Measure { q, b } => {
             let m = tables.own_next(input, rank);
             lettered(
@@ -208,105 +185,82 @@ fn local_step(input: &Input, tables: &Tables, rank: u16, instr: Instr) -> Step
             silent(Few::One(Act::BitSet { b, v }))
         }
         Instr::When { b, g } if tables.bit(input, rank, b) => {
-            lettered(gate_letter(input, tables, rank, g), Few::Empty)
+            lettered(letter_of(input, tables, rank, g), Few::Empty)
         }
         _ => silent(Few::Empty),
     }
 }
 
-/// The step of an instruction that is an end of a message; of any other, one without letters and acts.
-fn message_step(input: &Input, tables: &Tables, rank: u16, instr: Instr) -> Step
+/// The step of an instruction that sends on this lane.
+fn send_step(input: &Input, tables: &Tables, rank: u16, instr: Instr, lane: Lane) -> Step
     requires same { length tables.now.ranks.items ≡ length input.now.ranks }
     requires known { rank < length input.now.ranks }
-    ensures letters { is_message instr ≡ true
-        → list_of result.letters
+    requires sent { lane_sent rank instr ≡ Some lane }
+    ensures letters { list_of result.letters
         ≡ (ideal_row_of input.now (tables_of input.now tables.now) rank instr).letters }
-    ensures acts { is_message instr ≡ true
-        → map act_meant (list_of result.acts)
+    ensures acts { map act_meant (list_of result.acts)
         ≡ (ideal_row_of input.now (tables_of input.now tables.now) rank instr).acts }
 {
     match instr {
-        Instr::SendBit { b, to, tag } => {
-            let lane = lane(rank, to, Kind::Bit, tag);
-            let load = Load::Told {
-                bit: tables.bit(input, rank, b),
-            };
-            silent(Few::One(Act::Puts { lane, load }))
+        Instr::SendBit { b, .. } => {
+            let bit = tables.bit(input, rank, b);
+            silent(Few::One(put(lane, Load::Told { bit })))
         }
-        Instr::RecvBit { b, from, tag } => {
-            let lane = lane(from, rank, Kind::Bit, tag);
-            let v = tables.front_bit(input, lane);
-            silent(Few::Two(Act::Takes { lane }, Act::BitSet { b, v }))
-        }
-        Instr::CopyTo { q, to, tag } => {
-            let lane = lane(rank, to, Kind::Copy, tag);
-            let t = tables.made(input, rank);
+        Instr::CopyTo { q, .. } => {
             let c = tables.wire_in(rank, q);
-            let load = Load::Carried { wire: t };
-            lettered(
-                Letter::Cx { c, t },
-                Few::Two(Act::Counts, Act::Puts { lane, load }),
-            )
+            let t = tables.made(input, rank);
+            let puts = put(lane, Load::Carried { wire: t });
+            lettered(Letter::Cx { c, t }, Few::Two(Act::Counts, puts))
         }
-        Instr::CopyFrom { q, from, tag } => {
-            taking(input, tables, lane(from, rank, Kind::Copy, tag), q)
-        }
-        Instr::UndoTo { q, to, tag } => {
-            let lane = lane(rank, to, Kind::Undo, tag);
+        Instr::UndoTo { q, to, .. } => {
             let c = tables.offered(input, to);
             let t = tables.wire_in(rank, q);
-            let load = Load::Token;
             Step {
                 letters: Few::Two(Letter::Cx { c, t }, Letter::Take { w: t, m: false }),
-                acts: Few::Two(Act::SlotSet { q, wire: None }, Act::Puts { lane, load }),
+                acts: Few::Two(emptied(q), put(lane, Load::Token)),
             }
         }
-        Instr::UndoFrom { from, tag, .. } => {
-            let lane = lane(from, rank, Kind::Undo, tag);
-            silent(Few::One(Act::Takes { lane }))
-        }
-        Instr::MoveTo { q, to, tag } => {
-            let lane = lane(rank, to, Kind::Move, tag);
-            let b = tables.made(input, rank);
+        Instr::MoveTo { q, .. } => {
             let a = tables.wire_in(rank, q);
-            let load = Load::Carried { wire: b };
-            let emptied = Act::SlotSet { q, wire: None };
+            let b = tables.made(input, rank);
+            let puts = put(lane, Load::Carried { wire: b });
             lettered(
                 Letter::Rename { a, b },
-                Few::Three(Act::Counts, emptied, Act::Puts { lane, load }),
+                Few::Three(Act::Counts, emptied(q), puts),
             )
         }
-        Instr::MoveFrom { q, from, tag } => {
-            taking(input, tables, lane(from, rank, Kind::Move, tag), q)
-        }
         Instr::ReachTo { to, tag, .. } => {
-            let lane = lane(to, rank, Kind::Back, tag);
-            silent(Few::Two(Act::Counts, Act::Takes { lane }))
+            let back = Lane::new(to, rank, Kind::Back, tag);
+            silent(Few::Two(Act::Counts, Act::Takes { lane: back }))
         }
-        Instr::ReachFrom { t, from, tag } => {
-            let lane = lane(rank, from, Kind::Back, tag);
-            let c = tables.offered(input, from);
-            let t = tables.wire_in(rank, t);
-            let load = Load::Token;
-            lettered(Letter::Cx { c, t }, Few::One(Act::Puts { lane, load }))
-        }
-        _ => silent(Few::Empty),
+        _ => unreachable!(),
     }
 }
 
-/// Whether an instruction is an end of a message.
-fn is_message(instr: Instr) -> bool
-    ensures { result ≡ is_message instr }
+/// The step of an instruction that receives on this lane.
+fn receive_step(input: &Input, tables: &Tables, rank: u16, instr: Instr, lane: Lane) -> Step
+    requires same { length tables.now.ranks.items ≡ length input.now.ranks }
+    requires known { rank < length input.now.ranks }
+    requires received { lane_received rank instr ≡ Some lane }
+    ensures letters { list_of result.letters
+        ≡ (ideal_row_of input.now (tables_of input.now tables.now) rank instr).letters }
+    ensures acts { map act_meant (list_of result.acts)
+        ≡ (ideal_row_of input.now (tables_of input.now tables.now) rank instr).acts }
 {
     match instr {
-        Instr::Alloc { .. }
-        | Instr::Free { .. }
-        | Instr::Do { .. }
-        | Instr::Measure { .. }
-        | Instr::Set { .. }
-        | Instr::Xor { .. }
-        | Instr::When { .. } => false,
-        _ => true,
+        Instr::RecvBit { b, .. } => {
+            let v = tables.front_bit(input, lane);
+            silent(Few::Two(Act::Takes { lane }, Act::BitSet { b, v }))
+        }
+        Instr::CopyFrom { q, .. } | Instr::MoveFrom { q, .. } => taking(input, tables, lane, q),
+        Instr::UndoFrom { .. } => silent(Few::One(Act::Takes { lane })),
+        Instr::ReachFrom { t, from, tag } => {
+            let c = tables.offered(input, from);
+            let t = tables.wire_in(rank, t);
+            let back = Lane::new(rank, from, Kind::Back, tag);
+            lettered(Letter::Cx { c, t }, Few::One(put(back, Load::Token)))
+        }
+        _ => unreachable!(),
     }
 }
 
@@ -319,9 +273,9 @@ pub(crate) fn step_of(input: &Input, tables: &Tables, rank: u16, instr: Instr) -
     ensures acts { map act_meant (list_of result.acts)
         ≡ (ideal_row_of input.now (tables_of input.now tables.now) rank instr).acts }
 {
-    if is_message(instr) {
-        message_step(input, tables, rank, instr)
-    } else {
-        local_step(input, tables, rank, instr)
+    match (send_lane(rank, instr), receive_lane(rank, instr)) {
+        (Some(lane), _) => send_step(input, tables, rank, instr, lane),
+        (None, Some(lane)) => receive_step(input, tables, rank, instr, lane),
+        (None, None) => local_step(input, tables, rank, instr),
     }
 }

@@ -14,18 +14,11 @@ use crate::steps::{Act, Load};
 use qm_denot::Wire;
 use qm_instr::bits::{BITS, number_of_bits};
 use qm_instr::{Input, Instr, Lane};
-use qm_proto::Few;
+use qm_proto::{Few, NO_WIRE};
 use std::alloc::{AllocError, Global};
 
 /// How many slots a rank may have.
 const SLOTS: usize = qm_limits::SLOTS as usize;
-
-/// What stands for the wire of an empty slot, and of a lane without one.
-const NO_WIRE: Wire = Wire {
-    rank: 0,
-    made: 0,
-    near: false,
-};
 
 /// A rank: the number of its next instruction, how many wires it has counted and outcomes it has used, its bits and its slots.
 #[derive(Drop)]

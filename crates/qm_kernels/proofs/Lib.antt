@@ -4,5 +4,9 @@ pub mod StepLaws
 pub mod ExchangeLaws
 pub mod PlaceFits
 pub mod SizeLaws
-pub mod ExactLaws
+pub mod MovedLaws
 pub mod SmallLaws
+pub mod Bools
+pub mod HalvingLaws
+pub mod BelowLaws
+pub mod HadLaws

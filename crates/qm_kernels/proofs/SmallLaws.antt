@@ -1,6 +1,6 @@
 -- The sums and differences of small numbers fit
-use Rattle.std.proofs.Common.{◌↔◌, ℕ, ◌<◌, ℤ, pos, ◌+ℤ◌, ◌-ℤ◌, Bool, true, false, ◌&&◌, IsTrue, if◌then◌else◌, List, length, inl, inr, refl, sym, subst, arith}
-use Rattle.std.proofs.lemmas.Bool.{false≢true, cases_lt}
+use Rattle.std.proofs.Common.{ℕ, ◌<◌, ℤ, pos, ◌+ℤ◌, ◌-ℤ◌, Bool, true, false, if◌then◌else◌, List, length, inl, inr, sym, subst, arith}
+use Rattle.std.proofs.lemmas.Bool.{cases_lt}
 use Rattle.std.proofs.lemmas.Int.{ints}
 use Rattle.qm_zomega.specs.declared.Zw.{Zw}
 use Rattle.qm_zomega.specs.Numbers.{Number, zero_number, ◌⊕◌, ◌⊖◌, plus, minus}
@@ -10,11 +10,6 @@ use Rattle.qm_denot.specs.Places.{has_place, set_place}
 use Rattle.qm_denot.specs.LettersByPlace.{had_at}
 use Rattle.qm_denot.proofs.Numerators.{number_past}
 use Rattle.qm_kernels.specs.Small.{IsSmall, IsSmallPart}
-
--- both are true
-pub both_true : (p q : Bool) → IsTrue (p && q) ↔ (IsTrue p × IsTrue q)
-both_true true q = ((λ h. (refl, h)), (λ h. h.1))
-both_true false q = ((λ h. absurd (false≢true h)), (λ h. absurd (false≢true h.0)))
 
 part_sum : (x y : ℤ) → IsSmallPart x → IsSmallPart y → IsInRange (x +ℤ y)
 part_sum x y s t = omega (arith, ints, s.low, s.high, t.low, t.high)

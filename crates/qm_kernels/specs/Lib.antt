@@ -5,3 +5,9 @@ pub mod DoneLaws
 pub mod LocalLaws
 pub mod JoinLaws
 pub mod Small
+pub mod Below
+pub mod Halved
+pub mod HadReduced
+pub mod Parts
+pub mod Narrow
+pub mod ZwZero

@@ -5,13 +5,18 @@
 #![tactic(auto)]
 
 mod blocks;
+pub mod bounded;
 mod exact;
+pub mod halving;
 pub mod moves;
+pub mod narrow;
 mod number_steps;
 pub mod numbers;
 pub mod sizes;
+pub mod slim;
 mod small;
 mod steps;
+mod wide;
 
 pub use exact::{
     cross, fits, flip, gather, had, had_fits, hadamard, keep, pair_up, phase, sign, squeeze,

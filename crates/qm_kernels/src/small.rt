@@ -19,7 +19,7 @@ fn is_small_part(x: i128) -> bool
 
 /// Whether each component is small. All are looked at, so that one jump is enough.
 #[inline(always)]
-fn is_small(z: Zw) -> bool
+pub(crate) fn is_small(z: Zw) -> bool
     ensures { IsTrue result ↔ IsSmall (value_of z) }
 {
     is_small_part(z.a) & is_small_part(z.b) & is_small_part(z.c) & is_small_part(z.d)

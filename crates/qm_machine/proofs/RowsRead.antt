@@ -216,12 +216,6 @@ module _ (p : Programs) (t : Tables) (r : ℕ) (w : Row) (is : row_next p t r �
   pub measured : (g : Circuit) → FirstFails g (list_of w.checks) cause.Impossible → w.event ≡ event.Measure
   measured = (each_line IsOwn p t r at.i (t.parts r).stage w (rows_own p t r at.i) at.line).own
 
-  pub has_event_is : has_event p t r ≡ true
-  has_event_is = ap is_some is
-
-  pub enabled_is : {so : Bool} → so ≡ holds p t w.rule → enabled p t r ≡ so
-  enabled_is asked = ap (row_holds p t) is ∙ sym asked
-
   -- places in a program are few
   pub place_few : IsInRange p → r < length p.ranks → ((t.parts r).at < 100000) × ((t.parts r).stage < 5)
   place_few in_range known =
@@ -230,12 +224,6 @@ module _ (p : Programs) (t : Tables) (r : ℕ) (w : Row) (is : row_next p t r �
       (at_few p t r at.i in_range known at.read, omega (arith, count, within, events_few at.i))
 
 module _ (p : Programs) (f : Facts) (r : ℕ) (w : Row) (is : row_next p f.tables r ≡ Some w) where
-  pub passes_next : Passes f (list_of w.checks) → Passes f (row_checks (row_next p f.tables r))
-  passes_next = subst (λ o. Passes f (row_checks o)) (sym is)
-
-  pub stops_next : (c : Cause) → Stops f (list_of w.checks) c → Stops f (row_checks (row_next p f.tables r)) c
-  stops_next c = subst (λ o. Stops f (row_checks o) c) (sym is)
-
   -- the rank still stands there after its acts, so that the next place can be counted
   pub at_countable : (g : Facts) → Did f r (list_of w.acts) g → IsInRange p → r < length p.ranks
       → ((g.tables.parts r).at + 1 < 2 ^ 32) × ((g.tables.parts r).stage + 1 < 2 ^ 32)

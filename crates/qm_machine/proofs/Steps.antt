@@ -62,15 +62,8 @@ module _ {text : List ℕ} {p : Programs} {rs : List ℕ} {h : Option Halt} {f :
   pub at_body : (P : Tables → Type 0) → P (replay p rs).tables → P f.tables
   at_body P x = subst P (sym k.tables) x
 
-  pub kept_same : (g : Facts) → g ≡ f → IsKept text p rs h g room
-  kept_same g e = subst (λ (x : Facts). IsKept text p rs h x room) (sym e) k
-
   pub kept_short : length rs ≤ 500000
   kept_short = omega (arith, schedule_few p rs k.legal, event_total_few p k.in_range)
-
-  pub halts_stuck : (lowest : ℕ) → IsStuck p (replay p rs).tables → IsLowestLeft p f.tables lowest → HaltsAt p rs (halt_of lowest rs cause.Stuck)
-  halts_stuck lowest stuck left =
-      record { turns = refl; why = inl (record { cause_so = refl; stuck = stuck; lowest = at_replay (λ x. IsLowestLeft p x lowest) left }) }
 
   -- a rank's line is tried
   module _ (r : ℕ) (w : Row) (known : r < length p.ranks) (able : enabled p (replay p rs).tables r ≡ true)
@@ -160,18 +153,6 @@ module _ {A : Type 0} (store : A → Store) {text : List ℕ} {p : Programs} {rs
     pub step_blocked : ¬ (IsStuck p (replay p rs).tables) → StepBlocked store (shown text p rs h b) r why (shown text p rs h b)
     step_blocked moves =
         record { running = wait.running; left = wait.left; unable = wait.unable; moves = moves; why_so = wait.why_so; same = same b h refl }
-
-    pub step_stuck : (lowest : ℕ) → IsStuck p (replay p rs).tables → IsLowestLeft p (facts store b).tables lowest
-        → StepHalts store (shown text p rs h b) r (shown text p rs (Some (halt_of lowest rs cause.Stuck)) b)
-    step_stuck lowest stuck left =
-        record {
-          running = wait.running;
-          left = wait.left;
-          halt = halt_of lowest rs cause.Stuck;
-          why = halts_stuck k lowest stuck left;
-          who = inr stuck;
-          new = same b (Some (halt_of lowest rs cause.Stuck)) refl;
-        }
 
   module _ (d : Body A) (r : ℕ) (w : Row) (go : MayGo (shown text p rs h b) r w) where
     pub step_refused : (c : Cause) → Stops (facts store b) (list_of w.checks) c → facts store d ≡ facts store b

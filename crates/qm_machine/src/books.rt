@@ -4,14 +4,14 @@ ghost use Rattle.qm_proto.specs.Model.State.{far_made, near_last, bit_of, own_ne
 ghost use Rattle.qm_proto.specs.Model.Runs.{halves};
 ghost use Rattle.qm_machine.specs.Facts.{size_at};
 
-use crate::parcels::{NO_WIRE, first_bit, wire_of};
+use crate::parcels::{first_bit, wire_of};
 use crate::rank::Rank;
 use qm_buffers::Halves;
 use qm_denot::Wire;
 use qm_instr::Lane;
 use qm_mail::Mail;
 use qm_owner::Places;
-use qm_proto::Parcel;
+use qm_proto::{NO_WIRE, Parcel};
 
 /// Ranks, the places of their wires, how many halves each holds, and the mail: all that a machine keeps of a run beside its store.
 #[derive(Drop)]

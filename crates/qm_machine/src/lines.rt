@@ -1,23 +1,9 @@
 //! What the lines of the table of the events are made of.
 ghost use Rattle.std.specs.Prelude.{◌≡◌};
-ghost use Rattle.qm_instr.specs.Lanes.{lane};
 ghost use Rattle.qm_proto.specs.Model.Rows.{row, letter, letter_checks, few_if};
 
 use qm_denot::Letter;
-use qm_instr::{Kind, Lane};
 use qm_proto::{Act, Check, Event, Few, Row, Rule};
-
-/// The lane of this kind and tag from one rank to another.
-pub(crate) fn lane(from: u16, to: u16, kind: Kind, tag: u16) -> Lane
-    ensures { result ≡ lane from to kind tag }
-{
-    Lane {
-        from,
-        to,
-        kind,
-        tag,
-    }
-}
 
 /// The act of a letter.
 pub(crate) fn letter(l: Letter) -> Few<Act>

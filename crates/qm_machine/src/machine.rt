@@ -104,6 +104,17 @@ impl<A: Amps> Machine<A> {
         Step::Halted
     }
 
+    /// The rank that went on last; this one, where none has yet.
+    fn last_rank(&self, rank: u16) -> u16
+        requires { rank < length self.now.programs.ranks }
+        ensures { result < length self.now.programs.ranks }
+    {
+        match self.schedule.last() {
+            Some(last) => *last as u16,
+            None => rank,
+        }
+    }
+
     /// The answer where a rank's next event isn't enabled.
     fn wait(&mut self, rank: u16, why: Why) -> Step
         requires { MustWait self.old rank why }
@@ -111,8 +122,9 @@ impl<A: Amps> Machine<A> {
         ensures programs { self.new.programs ≡ self.old.programs }
         ensures step { StepIs A.store self.old rank result self.new }
     {
+        let last = self.last_rank(rank);
         let input = self.ready.input();
-        if any_enabled(input, &self.body.books) {
+        if any_enabled(input, &self.body.books, last) {
             return Step::Blocked { why };
         }
         let lowest = lowest_left(input, &self.body.books, rank);

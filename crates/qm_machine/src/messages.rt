@@ -7,12 +7,12 @@ ghost use Rattle.qm_machine.specs.Reads.{IsRank};
 ghost use Rattle.qm_machine.specs.Views.{tables, rank_count};
 
 use crate::books::Books;
-use crate::lines::{lane, letter, letter_if, plain, tested, waiting};
-use crate::parcels::{NO_WIRE, first_bit, half, second_bit, told, wire_of};
+use crate::lines::{letter, letter_if, plain, tested, waiting};
+use crate::parcels::{first_bit, half, second_bit, told, wire_of};
 use crate::rules::current;
 use qm_denot::{Letter, Wire};
 use qm_instr::{Input, Instr, Kind, Lane};
-use qm_proto::{Act, Check, Event, Few, Row, Rule};
+use qm_proto::{Act, Check, Event, Few, NO_WIRE, Row, Rule};
 
 /// A quantum message at one of its ranks: that rank and its slot, the other rank, and the tag.
 #[derive(Clone, Copy)]
@@ -42,14 +42,14 @@ impl Message {
     fn out(self, kind: Kind) -> Lane
         ensures { result ≡ lane self.rank self.other kind self.tag }
     {
-        lane(self.rank, self.other, kind, self.tag)
+        Lane::new(self.rank, self.other, kind, self.tag)
     }
 
     /// The lane of this kind from there.
     fn back(self, kind: Kind) -> Lane
         ensures { result ≡ lane self.other self.rank kind self.tag }
     {
-        lane(self.other, self.rank, kind, self.tag)
+        Lane::new(self.other, self.rank, kind, self.tag)
     }
 }
 

@@ -4,14 +4,7 @@ ghost use Rattle.qm_proto.specs.Model.State.{wire_of, first_bit, second_bit};
 ghost use Rattle.qm_proto.specs.Model.Rows.{half_parcel, bit_parcel};
 
 use qm_denot::Wire;
-use qm_proto::Parcel;
-
-/// What stands for the wire of an empty slot, or of a parcel that carries none.
-pub(crate) const NO_WIRE: Wire = Wire {
-    rank: 0,
-    made: 0,
-    near: false,
-};
+use qm_proto::{NO_WIRE, Parcel};
 
 /// The wire that a parcel carries.
 pub(crate) fn wire_of(parcel: Parcel) -> Wire

@@ -1,7 +1,7 @@
 //! One rank of a machine, but for its wires: how far it is in its program, its bits and its tapes.
 use qm_instr::bits::{BITS, number_of_bits};
 use qm_limits::MOST_OUTCOMES;
-use qm_proto::Parcel;
+use qm_proto::{Parcel, has_event_after};
 use qm_tape::Tape;
 use std::alloc::{AllocError, Global};
 
@@ -169,7 +169,7 @@ impl Rank {
         requires stage { (part_of self.old).stage + 1 < 2 ^ 32 }
         ensures { part_of self.new ≡ part_after_event events (part_of self.old) }
     {
-        if self.stage + 1 < events {
+        if has_event_after(self.stage, events) {
             self.stage += 1;
         } else {
             self.at += 1;

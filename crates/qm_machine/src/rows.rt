@@ -5,53 +5,27 @@ ghost use Rattle.qm_instr.specs.declared.Kind.TheVariants as kind;
 ghost use Rattle.qm_check.specs.Operands.{partner_of};
 ghost use Rattle.qm_denot.specs.Protocols.{differing};
 ghost use Rattle.qm_proto.specs.Model.State.{wire_in, bit_of, own_next, front, first_bit};
-ghost use Rattle.qm_proto.specs.Model.Rows.{row, rows, bit_parcel, letter, letter_checks, one_letter, gate_letter, few_if};
+ghost use Rattle.qm_proto.specs.Model.Rows.{row, rows, bit_parcel, letter, letter_checks, gate_letter, few_if};
 ghost use Rattle.qm_proto.specs.Model.Runs.{row_next};
 ghost use Rattle.qm_machine.specs.Reads.{IsRank, IsReadyRank};
 ghost use Rattle.qm_machine.specs.Views.{tables, rank_count};
 
 use crate::books::Books;
-use crate::lines::{checks_if, lane, letter, letter_checks, letter_if, plain, tested, waiting};
+use crate::lines::{checks_if, letter, letter_checks, letter_if, plain, tested, waiting};
 use crate::messages::{
     Message, copy_from, copy_to, move_from, move_to, reach_from, reach_to, undo_from, undo_to,
 };
 use crate::parcels::told;
 use crate::rules::current;
-use qm_denot::{Letter, Wire};
-use qm_instr::{Gate, Input, Instr, Kind, OneGate};
-use qm_proto::{Act, Check, Event, Few, Row, Rule};
-
-/// The letter of a gate on one qubit.
-fn one_letter(gate: OneGate, w: Wire) -> Letter
-    ensures { result ≡ one_letter gate w }
-{
-    match gate {
-        OneGate::X => Letter::Flip { w },
-        OneGate::Z => Letter::Phase { k: 4, w },
-        OneGate::H => Letter::Had { w },
-        OneGate::S => Letter::Phase { k: 2, w },
-        OneGate::Sdg => Letter::Phase { k: 6, w },
-        OneGate::T => Letter::Phase { k: 1, w },
-        OneGate::Tdg => Letter::Phase { k: 7, w },
-    }
-}
+use qm_denot::Letter;
+use qm_instr::{Gate, Input, Instr, Kind, Lane};
+use qm_proto::{Act, Check, Event, Few, Row, Rule, gate_letter};
 
 /// The letter of a gate on the slots of a rank.
-fn gate_letter(books: &Books, rank: u16, gate: Gate) -> Letter
-    requires { rank < rank_count books.now }
+fn letter_of(books: &Books, rank: u16, gate: Gate) -> Letter
     ensures { result ≡ gate_letter (wire_in (tables books.now) rank) gate }
 {
-    match gate {
-        Gate::One { g, q } => one_letter(g, books.wire_in(rank, q)),
-        Gate::Cx { c, t } => Letter::Cx {
-            c: books.wire_in(rank, c),
-            t: books.wire_in(rank, t),
-        },
-        Gate::Cz { c, t } => Letter::Cz {
-            c: books.wire_in(rank, c),
-            t: books.wire_in(rank, t),
-        },
-    }
+    gate_letter(gate, |q| books.wire_in(rank, q))
 }
 
 /// A gate.
@@ -60,7 +34,7 @@ fn gate_row(books: &Books, rank: u16, gate: Gate) -> Row
     ensures { let l = gate_letter (wire_in (tables books.now) rank) gate in
         result ≡ row Event.Gate Rule.Always (letter_checks l) (letter l) }
 {
-    let l = gate_letter(books, rank, gate);
+    let l = letter_of(books, rank, gate);
     tested(Event::Gate, letter_checks(l), letter(l))
 }
 
@@ -71,7 +45,7 @@ fn when_row(books: &Books, rank: u16, b: u8, gate: Gate) -> Row
         let set = bit_of (tables books.now) rank b in
         result ≡ row Event.When Rule.Always (few_if set (letter_checks l)) (few_if set (letter l)) }
 {
-    let l = gate_letter(books, rank, gate);
+    let l = letter_of(books, rank, gate);
     let set = books.bit(rank, b);
     tested(Event::When, checks_if(set, l), letter_if(set, l))
 }
@@ -131,7 +105,7 @@ fn send_row(books: &Books, rank: u16, b: u8, to: u16, tag: u16) -> Row
         let acts = Few.One (Act.Posts a (bit_parcel (bit_of (tables books.now) rank b))) in
         result ≡ row Event.SendBit Rule.Always Few.Empty acts }
 {
-    let lane = lane(rank, to, Kind::Bit, tag);
+    let lane = Lane::new(rank, to, Kind::Bit, tag);
     let parcel = told(books.bit(rank, b));
     plain(Event::SendBit, Few::One(Act::Posts { lane, parcel }))
 }
@@ -143,7 +117,7 @@ fn receive_row(books: &Books, rank: u16, b: u8, from: u16, tag: u16) -> Row
         let acts = Few.Two (Act.Receives a) (Act.BitSet b v) in
         result ≡ row Event.RecvBit (Rule.Filled a) Few.Empty acts }
 {
-    let lane = lane(from, rank, Kind::Bit, tag);
+    let lane = Lane::new(from, rank, Kind::Bit, tag);
     let v = books.front_bit(lane);
     waiting(
         Event::RecvBit,

@@ -1,5 +1,5 @@
 //! Which rank has an event left, which is enabled, and what one lacks that isn't.
-ghost use Rattle.std.specs.Prelude.{◌≡◌, ◌<◌, true, false, Some, None};
+ghost use Rattle.std.specs.Prelude.{◌≡◌, ◌<◌, length, true, false, Some, None};
 ghost use Rattle.qm_proto.specs.Model.Rows.{current};
 ghost use Rattle.qm_proto.specs.Model.Runs.{holds, is_wanted, receives_on, enabled, has_event, events_at};
 ghost use Rattle.qm_proto.specs.Model.Schedules.{IsLowestLeft, NoneEnabled};
@@ -103,12 +103,16 @@ fn is_enabled(input: &Input, books: &Books, rank: u16) -> bool
     }
 }
 
-/// Whether some rank is enabled.
-pub(crate) fn any_enabled(input: &Input, books: &Books) -> bool
-    requires { AreRanks input.now books.now }
+/// Whether some rank is enabled. This one, which most likely is, is asked before the others.
+pub(crate) fn any_enabled(input: &Input, books: &Books, first: u16) -> bool
+    requires ranks { AreRanks input.now books.now }
+    requires known { first < length input.now.ranks }
     ensures some { result ≡ true → ¬ (NoneEnabled input.now (tables books.now)) }
     ensures none { result ≡ false → NoneEnabled input.now (tables books.now) }
 {
+    if is_enabled(input, books, first) {
+        return true;
+    }
     for rank in 0..input.ranks() {
         if is_enabled(input, books, rank) {
             return true;

@@ -6,6 +6,7 @@ use Rattle.qm_parse.specs.declared.tree.Node.{Node}
 use Rattle.qm_parse.specs.declared.tree.What.{What}
 use Rattle.qm_parse.specs.declared.tree.What.TheVariants as what
 use Rattle.qm_parse.specs.Trees.{Expr, Sum, Adds, NoAdd, Add, Term, Product, Muls, NoMul, Mul, Prim, Num, Name, Rank, Size, Paren, Call, Body, Nothing, Then, Stmt, Do, DoUnder, For, Blocks, ForAll, ForEach, TapeLine, Program}
+use Rattle.qm_parse.specs.Words.{version_number}
 use Rattle.qm_parse.specs.Nodes.{leaf, add_what, mul_what}
 use Rattle.qm_parse.specs.Reaching.{with_stop, written}
 use Rattle.std.specs.Prelude.{Bool}
@@ -102,12 +103,21 @@ abbrev pub behind_tapes : List TapeLine → Spot → Spot
 behind_tapes [] s = s
 behind_tapes (t ∷ ts) s = behind_tapes ts (behind_tape t s)
 
--- from the number of ranks on
-abbrev pub behind_sizes : Program → Spot → Spot
-behind_sizes p s = noted what.Num p.buffer (taken (noted what.Num p.qubits (taken (noted what.Num p.ranks s))))
+abbrev pub behind_numbers : List ℕ → Spot → Spot
+behind_numbers [] s = s
+behind_numbers (n ∷ ns) s = behind_numbers ns (noted what.Num n s)
 
+-- from the slots on
+abbrev pub behind_sizes : Program → Spot → Spot
+behind_sizes p s = behind_tapes p.tapes (behind_blocks p.blocks (behind_numbers p.buffers (taken (behind_numbers p.qubits s))))
+
+-- from the number of ranks on
 abbrev pub behind_rest : Program → Spot → Spot
-behind_rest p s = behind_tapes p.tapes (behind_blocks p.blocks (behind_sizes p s))
+behind_rest p s = behind_sizes p (taken (noted what.Num p.ranks s))
+
+-- from the number of the version on
+abbrev pub behind_version : Program → Spot → Spot
+behind_version p s = behind_rest p (taken (noted what.Num (version_number p.version) s))
 
 abbrev pub behind_program : Program → Spot
-behind_program p = behind_rest p (taken (noted what.Num 1 (taken (spot 0 []))))
+behind_program p = behind_version p (taken (spot 0 []))

@@ -1,5 +1,5 @@
 -- The nodes that are written while the tokens are read are those of the source tree
-use Rattle.std.proofs.Common.{◌≡◌, ℕ, ◌+◌, List, [], ◌∷◌, ◌++◌, length, refl, sym, ap, ◌∙◌, append_assoc, arith, length-append, if◌then◌else◌}
+use Rattle.std.proofs.Common.{◌≡◌, ℕ, suc, ◌+◌, List, [], ◌∷◌, ◌++◌, length, refl, sym, ap, ◌∙◌, append_assoc, arith, length-append, if◌then◌else◌}
 use Rattle.std.proofs.lemmas.List.{append-nil}
 use Rattle.qm_parse.specs.declared.tree.Node.{Node}
 use Rattle.qm_parse.specs.declared.tree.What.{What}
@@ -9,9 +9,10 @@ use Rattle.qm_parse.specs.declared.words.Keyword.TheVariants as keyword
 use Rattle.qm_parse.specs.declared.words.Mark.TheVariants as mark
 use Rattle.qm_parse.specs.Signs.{Sign, Number, Key, Ident, Symbol}
 use Rattle.qm_parse.specs.Spelling.{expr_signs, adds_signs, term_signs, muls_signs, prim_signs, operands_signs, call_signs, body_signs, stmt_signs, each_signs, blocks_signs, tapes_signs}
-use Rattle.qm_parse.specs.Nodes.{leaf, around, add_what, mul_what, expr_nodes, adds_nodes, term_nodes, muls_nodes, prim_nodes, operand_nodes, operands_nodes, call_nodes, body_nodes, stmt_nodes, each_nodes, blocks_nodes, tapes_nodes, program_nodes}
+use Rattle.qm_parse.specs.Words.{version_number}
+use Rattle.qm_parse.specs.Nodes.{leaf, around, add_what, mul_what, expr_nodes, adds_nodes, term_nodes, muls_nodes, prim_nodes, operand_nodes, operands_nodes, call_nodes, body_nodes, stmt_nodes, each_nodes, blocks_nodes, tapes_nodes, numbers_nodes, rest_nodes, program_nodes}
 use Rattle.qm_parse.specs.Reaching.{with_stop}
-use Rattle.qm_parse.proofs.Behind.{Spot, spot, taken, leafed, noted, finished, behind_expr, behind_adds, behind_term, behind_muls, behind_prim, behind_operand, behind_operands, behind_call, behind_body, behind_stmt, behind_braced, behind_each, behind_blocks, behind_tape, behind_tapes, behind_sizes, behind_program}
+use Rattle.qm_parse.proofs.Behind.{Spot, spot, taken, leafed, noted, finished, behind_expr, behind_adds, behind_term, behind_muls, behind_prim, behind_operand, behind_operands, behind_call, behind_body, behind_stmt, behind_braced, behind_each, behind_blocks, behind_tape, behind_tapes, behind_numbers, behind_program}
 
 -- ---- steps that write nodes
 -- so many tokens further, with these nodes
@@ -300,9 +301,54 @@ tapes-writes (t ∷ ts) =
     (writes-then (behind_tape t) (behind_tapes ts) 3 (length (tapes_signs ts)) (λ at base. line_nodes t at base (at + 2) (base + 2)) (λ at base. tapes_nodes at base ts) (tape-writes t) (tapes-writes ts))
     (omega arith) (λ at base. refl)
 
+numbers-writes : (ns : List ℕ) → Writes (behind_numbers ns) (length ns) (λ at base. numbers_nodes at base ns)
+numbers-writes [] = writes-nothing
+numbers-writes (n ∷ ns) =
+    writes-as (behind_numbers (n ∷ ns)) (1 + length ns) (length (n ∷ ns)) (λ at base. numbers_nodes at base (n ∷ ns)) (λ at base. numbers_nodes at base (n ∷ ns))
+    (writes-then (noted what.Num n) (behind_numbers ns) 1 (length ns) (λ at base. leaf what.Num at n base ∷ []) (λ at base. numbers_nodes at base ns) (writes-note what.Num n) (numbers-writes ns))
+    (omega arith) (λ at base. refl)
+
+length-numbers : (at base : ℕ) (ns : List ℕ) → length (numbers_nodes at base ns) ≡ length ns
+length-numbers at base [] = refl
+length-numbers at base (n ∷ ns) = ap (λ k. suc k) (length-numbers (at + 1) (base + 1) ns)
+
+-- the blocks and the tape lines
+rest-writes : (p : Program) → Writes (λ s. behind_tapes p.tapes (behind_blocks p.blocks s)) (length (blocks_signs p.blocks) + length (tapes_signs p.tapes)) (λ at base. rest_nodes at base p)
+rest-writes p =
+    writes-then (behind_blocks p.blocks) (behind_tapes p.tapes) (length (blocks_signs p.blocks)) (length (tapes_signs p.tapes)) (λ at base. blocks_nodes at base p.blocks) (λ at base. tapes_nodes at base p.tapes)
+    (blocks-writes p.blocks) (tapes-writes p.tapes)
+
+-- the buffers, and what follows them
+buffers-writes : (p : Program) → Writes (λ s. behind_tapes p.tapes (behind_blocks p.blocks (behind_numbers p.buffers s)))
+    (length p.buffers + (length (blocks_signs p.blocks) + length (tapes_signs p.tapes)))
+    (λ at base. numbers_nodes at base p.buffers ++ rest_nodes (at + length p.buffers) (base + length (numbers_nodes at base p.buffers)) p)
+buffers-writes p =
+    writes-then (behind_numbers p.buffers) (λ s. behind_tapes p.tapes (behind_blocks p.blocks s)) (length p.buffers) (length (blocks_signs p.blocks) + length (tapes_signs p.tapes))
+    (λ at base. numbers_nodes at base p.buffers) (λ at base. rest_nodes at base p) (numbers-writes p.buffers) (rest-writes p)
+
+-- the nodes behind the number of ranks, where the buffers and the rest begin at these tokens and nodes
+abbrev sized_nodes : Program → (i j k l : ℕ) → List Node
+sized_nodes p i j k l = numbers_nodes 5 2 p.qubits ++ (numbers_nodes i j p.buffers ++ rest_nodes k l p)
+
 pub program-written : (p : Program) → (behind_program p).nodes ≡ program_nodes p
 program-written p =
-    let s = behind_sizes p (taken (noted what.Num 1 (taken (spot 0 [])))) in
+    let n = length p.qubits in
+    let m = length p.buffers in
+    let s = taken (noted what.Num p.ranks (taken (noted what.Num (version_number p.version) (taken (spot 0 []))))) in
+    let head = leaf what.Num 1 (version_number p.version) 0 ∷ leaf what.Num 3 p.ranks 1 ∷ [] in
+    let qubits = numbers_nodes 5 2 p.qubits in
+    let i : 5 + (n + 1) ≡ 6 + n = omega arith in
+    let j : 2 + length qubits ≡ 2 + n = ap (λ k. 2 + k) (length-numbers 5 2 p.qubits) in
+    let k : 5 + (n + 1) + m ≡ 6 + n + m = omega arith in
+    let l : 2 + length qubits + length (numbers_nodes (6 + n) (2 + n) p.buffers) ≡ 2 + n + m = omega (arith, j, length-numbers (6 + n) (2 + n) p.buffers) in
     ap (λ (t : Spot). t.nodes)
-    (writes-then (behind_blocks p.blocks) (behind_tapes p.tapes) (length (blocks_signs p.blocks)) (length (tapes_signs p.tapes)) (λ at base. blocks_nodes at base p.blocks) (λ at base. tapes_nodes at base p.tapes)
-    (blocks-writes p.blocks) (tapes-writes p.tapes) s)
+    (writes-then (λ t. taken (behind_numbers p.qubits t)) (λ t. behind_tapes p.tapes (behind_blocks p.blocks (behind_numbers p.buffers t)))
+    (n + 1) (m + (length (blocks_signs p.blocks) + length (tapes_signs p.tapes)))
+    (λ at base. numbers_nodes at base p.qubits)
+    (λ at base. numbers_nodes at base p.buffers ++ rest_nodes (at + m) (base + length (numbers_nodes at base p.buffers)) p)
+    (writes-taking (behind_numbers p.qubits) n (λ at base. numbers_nodes at base p.qubits) (numbers-writes p.qubits)) (buffers-writes p) s)
+    ∙ ap (λ z. head ++ z)
+    (ap (λ i. sized_nodes p i (2 + length qubits) (5 + (n + 1) + m) (2 + length qubits + length (numbers_nodes i (2 + length qubits) p.buffers))) i
+    ∙ ap (λ j. sized_nodes p (6 + n) j (5 + (n + 1) + m) (2 + length qubits + length (numbers_nodes (6 + n) j p.buffers))) j
+    ∙ ap (λ k. sized_nodes p (6 + n) (2 + n) k (2 + length qubits + length (numbers_nodes (6 + n) (2 + n) p.buffers))) k
+    ∙ ap (λ l. sized_nodes p (6 + n) (2 + n) (6 + n + m) l) l)

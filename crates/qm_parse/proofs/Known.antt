@@ -14,14 +14,15 @@ use Rattle.qm_parse.specs.declared.looks.Look.TheVariants as look
 use Rattle.qm_parse.specs.declared.words.Keyword.TheVariants as keyword
 use Rattle.qm_parse.specs.declared.words.Mark.TheVariants as mark
 use Rattle.qm_parse.specs.declared.tree.What.{What}
-use Rattle.qm_parse.specs.Words.{takes_gate}
+use Rattle.qm_parse.specs.declared.words.Version.{Version}
+use Rattle.qm_parse.specs.Words.{takes_gate, size_count}
 use Rattle.qm_parse.specs.Signs.{Sign, Number, Key, Act, Ident, Symbol}
 use Rattle.qm_parse.specs.Trees.{Program, ProgramMay}
 use Rattle.qm_parse.specs.Spelling.{program_signs}
 use Rattle.qm_parse.specs.Faults.{open_behind, open_after, MayOpen, IsShallow}
 use Rattle.qm_parse.specs.Looks.{capped, look_of, look_at}
 use Rattle.qm_parse.specs.Verdicts.{is_fixed, verdict_if, number_verdict, open_verdict, is_all, is_tape, mul_op, add_op, verdict_of}
-use Rattle.qm_parse.specs.Moves.{start_goals, ranks_goals, each_goals, statement_goals, gate_goals, muls_goals, adds_goals, prim_goals, next_goals}
+use Rattle.qm_parse.specs.Moves.{start_goals, ranks_goals, number_goals, each_goals, statement_goals, gate_goals, muls_goals, adds_goals, prim_goals, next_goals}
 use Rattle.qm_parse.specs.Reaching.{Place, start_place, depth_behind, moved, behind_goal, next_look, Reaches, AtStart, Taking, Staying}
 use Rattle.qm_parse.proofs.WeightLemmas.{verdict_if-stay, number-stay, prim-stay, braced-stay, each-no, verdict-end}
 use Rattle.qm_parse.specs.declared.tree.What.TheVariants as what
@@ -80,14 +81,18 @@ ok-if : (b : Bool) (gs hs : List Goal) → GoalsOk gs → GoalsOk hs → GoalsOk
 ok-if true gs hs x y = x
 ok-if false gs hs x y = y
 
-ok-ranks : (t : Sign) → number_verdict (look_of t) 1 17 ≡ verdict.Take → GoalsOk (ranks_goals (look_of t))
-ok-ranks (Number v) e =
-    let r = number-in 1 17 v e in
-    let a : 1 ≤ capped v = omega (arith, r.low, r.same) in
-    let b : capped v ≤ 16 = omega (arith, r.high, r.same) in
+ok-ranks : (v : Version) (t : Sign) → number_verdict (look_of t) 1 17 ≡ verdict.Take → GoalsOk (ranks_goals v (look_of t))
+ok-ranks v (Number n) e =
+    let r = number-in 1 17 n e in
+    let a : 1 ≤ capped n = omega (arith, r.low, r.same) in
+    let b : capped n ≤ 16 = omega (arith, r.high, r.same) in
     let c : 1 < 17 = omega arith in let d : 17 ≤ 2147483648 = omega arith in let f : 1 < 9 = omega arith in let g : 9 ≤ 2147483648 = omega arith in
     (tt, ((c, d), (tt, ((f, g), ((a, b), ((a, b), tt))))))
-ok-ranks t e = cc
+ok-ranks v t e = cc
+
+ok-numbers : (left end : ℕ) (b : Bool) → (1 < end) × (end ≤ 2147483648) → GoalsOk (if b then number_goals (left - 1) end else [])
+ok-numbers left end true o = (o, (o, tt))
+ok-numbers left end false o = tt
 
 ok-each : (next ranks base : ℕ) (b : Bool) → nat_lt next ranks ≡ b → ranks ≤ 16 → GoalsOk (if b then each_goals next ranks base else [])
 ok-each next ranks base true k o =
@@ -131,7 +136,9 @@ ok-operands left at true = (tt, (tt, (tt, (tt, (tt, tt)))))
 ok-operands left at false = tt
 
 pub ok-take : (g : Goal) (t : Sign) (at base : ℕ) → GoalOk g → verdict_of g (look_of t) 0 ≡ verdict.Take → GoalsOk (next_goals g (look_of t) at base)
-ok-take goal.Ranks t at base o e = ok-ranks t e
+ok-take goal.Version t at base o e = (tt, (tt, tt))
+ok-take (goal.Ranks v) t at base o e = ok-ranks v t e
+ok-take (goal.Numbers left end) t at base o e = ok-numbers left end (nat_lt 0 left) o
 ok-take (goal.Blocks ranks) t at base o e = ok-blocks ranks base (is_all (look_of t)) o.1
 ok-take (goal.Each next ranks) t at base o e = ok-each next ranks base (nat_lt next ranks) refl o
 ok-take (goal.Tapes ranks) t at base o e = ok-tapes ranks base (is_tape (look_of t)) o
@@ -145,7 +152,9 @@ ok-take goal.Adds t at base o e = ok-adds (add_op (look_of t)) at
 ok-take g t at base o e = tt
 
 ok-stay : (g : Goal) (l : Look) (at base : ℕ) → GoalOk g → verdict_of g l 0 ≡ verdict.Stay → GoalsOk (next_goals g l at base)
-ok-stay goal.Ranks l at base o e = absurd (number-stay l 1 17 e)
+ok-stay goal.Version l at base o e = absurd (number-stay l 1 3 e)
+ok-stay (goal.Ranks v) l at base o e = absurd (number-stay l 1 17 e)
+ok-stay (goal.Numbers left end) l at base o e = ok-numbers left end (nat_lt 0 left) o
 ok-stay (goal.Blocks ranks) l at base o e = ok-blocks ranks base (is_all l) o.1
 ok-stay (goal.Each next ranks) l at base o e = ok-each next ranks base (nat_lt next ranks) refl o
 ok-stay (goal.Tapes ranks) l at base o e = ok-tapes ranks base (is_tape l) o
@@ -272,28 +281,24 @@ pub record Known (signs : List Sign) (p : Place) : Type 0 where
   pub forth : (r : Program) (ys : List Sign) → ProgramMay r → Alike (look_at ys) (next_look signs p) → program_signs r ≡ take p.at signs ++ ys → Forth p.goals [] ys
 
 start-back : (signs : List Sign) (q : Parts start_goals) → PartsMay start_goals q → Reads [] (before start_goals q []) (behind_all start_goals q (spot_of start_place))
-start-back signs (u, (v, (u2, (r, w)))) m = record {
+start-back signs (u, (r, w)) m = record {
   program = r;
-  may = m.1.1.1.0;
-  spelled =
-      let one : 1 ≡ v = omega (arith, m.1.0.0, m.1.0.1) in
-      ap (λ z. Key keyword.Qmpi ∷ Number 1 ∷ Key keyword.Ranks ∷ z) (sym (append-nil (rest_signs r))) ∙ ap (λ (n : ℕ). Key keyword.Qmpi ∷ Number n ∷ Key keyword.Ranks ∷ (rest_signs r ++ [])) one;
-  written =
-      let one : 1 ≡ v = omega (arith, m.1.0.0, m.1.0.1) in
-      ap (λ (n : ℕ). behind_rest r (taken (noted what.Num n (taken (spot 0 []))))) one;
+  may = m.1.0;
+  spelled = ap (λ z. Key keyword.Qmpi ∷ z) (sym (append-nil (rest_signs r)));
+  written = refl;
 }
 
 start-forth : (r : Program) (ys : List Sign) → ProgramMay r → program_signs r ≡ ys → Forth start_goals [] ys
-start-forth r ys m e = let a : 1 ≤ 1 = omega arith in let b : 1 < 2 = omega arith in record {
-  parts = (tt, (1, (tt, (r, tt))));
-  may = (tt, ((a, b), (tt, (m, tt))));
-  ends = (tt, (tt, (tt, (tt, tt))));
-  spelled = ap (λ z. Key keyword.Qmpi ∷ Number 1 ∷ Key keyword.Ranks ∷ z) (append-nil (rest_signs r)) ∙ e;
+start-forth r ys m e = record {
+  parts = (tt, (r, tt));
+  may = (tt, (m, tt));
+  ends = (tt, (tt, tt));
+  spelled = ap (λ z. Key keyword.Qmpi ∷ z) (append-nil (rest_signs r)) ∙ e;
 }
 
 known-start : (signs : List Sign) → Known signs start_place
-known-start signs = let a : 1 < 2 = omega arith in let b : 2 ≤ 2147483648 = omega arith in record {
-  ok = (tt, ((a, b), (tt, (tt, tt))));
+known-start signs = record {
+  ok = (tt, (tt, tt));
   depth_is = refl;
   shallow = tt;
   back = start-back signs;
@@ -358,7 +363,8 @@ known-take signs p g rest t ts h e d v =
 -- the value of a number doesn't matter to a goal that takes no token
 number-stays : (g : Goal) (n m : ℕ) (at base : ℕ) → verdict_of g (look.Number n) 0 ≡ verdict.Stay
     → (verdict_of g (look.Number m) 0 ≡ verdict.Stay) × (next_goals g (look.Number m) at base ≡ next_goals g (look.Number n) at base)
-number-stays goal.Ranks n m at base e = absurd (number-stay (look.Number n) 1 17 e)
+number-stays goal.Version n m at base e = absurd (number-stay (look.Number n) 1 3 e)
+number-stays (goal.Ranks v) n m at base e = absurd (number-stay (look.Number n) 1 17 e)
 number-stays (goal.Number least end w) n m at base e = absurd (number-stay (look.Number n) least end e)
 number-stays goal.Prim n m at base e = absurd (prim-stay (look.Number n) 0 e)
 number-stays (goal.Fixed f) n m at base e = absurd (verdict_if-stay _ e)

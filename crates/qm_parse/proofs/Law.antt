@@ -1,5 +1,5 @@
 -- Where the reading ends, a program is spelled, or the first token at which no program goes on decides
-use Rattle.std.proofs.Common.{◌≡◌, ℕ, zero, suc, ◌≤◌, List, [], ◌∷◌, ◌++◌, length, take, drop, Option, Some, None, Err, refl, sym, ap, ◌∙◌, subst, append_assoc, arith}
+use Rattle.std.proofs.Common.{◌≡◌, ℕ, zero, suc, ◌≤◌, List, [], ◌∷◌, ◌++◌, length, map, take, drop, Option, Some, None, Err, refl, sym, ap, ◌∙◌, subst, append_assoc, arith}
 use Rattle.std.specs.Prelude.{slice_get, option_map}
 use Rattle.std.proofs.lemmas.List.{append-nil}
 use Rattle.qm_lex.specs.declared.tokens.Token.{Token}
@@ -11,8 +11,8 @@ use Rattle.qm_parse.specs.declared.goals.Verdict.TheVariants as verdict
 use Rattle.qm_parse.specs.declared.looks.Look.{Look}
 use Rattle.qm_parse.specs.declared.looks.Look.TheVariants as look
 use Rattle.qm_parse.specs.declared.tree.Node.{Node}
-use Rattle.qm_parse.specs.declared.words.Version.TheVariants as version
-use Rattle.qm_parse.specs.Signs.{Sign, Number, sign_of, signs_of}
+use Rattle.qm_parse.specs.declared.words.Version.{Version}
+use Rattle.qm_parse.specs.Signs.{Sign, Number, sign_of, signs_of, version_of}
 use Rattle.qm_parse.specs.Trees.{Program, ProgramMay}
 use Rattle.qm_parse.specs.Spelling.{program_signs}
 use Rattle.qm_parse.specs.Faults.{open_after, IsShallow, Spells, CanGoOn, StopsAt, IsTooLarge, IsTooDeep, IsUnexpected, IsUnended}
@@ -37,24 +37,24 @@ record AtToken (signs : List Sign) (n : ℕ) (t : Sign) : Type 0 where
   next : drop n signs ≡ t ∷ rest
   count : length (take n signs) ≡ n
 
-at-token : (text : List ℕ) (tokens : List Token) (n : ℕ) (token : Token) → slice_get tokens n ≡ Some token → AtToken (signs_of text tokens) n (sign_of version.One text token)
-at-token text [] n token e = cc
-at-token text (u ∷ us) zero token e = let h : u ≡ token = cc in
-    let k = ap (λ (x : Token). sign_of version.One text x ∷ signs_of text us) h in record { rest = signs_of text us; whole = k; next = k; count = refl }
-at-token text (u ∷ us) (suc n) token e = let a = at-token text us n token e in
-    record { rest = a.rest; whole = ap (λ z. sign_of version.One text u ∷ z) a.whole; next = a.next; count = ap (λ m. suc m) a.count }
+at-token : (v : Version) (text : List ℕ) (tokens : List Token) (n : ℕ) (token : Token) → slice_get tokens n ≡ Some token → AtToken (map (sign_of v text) tokens) n (sign_of v text token)
+at-token v text [] n token e = cc
+at-token v text (u ∷ us) zero token e = let h : u ≡ token = cc in
+    let k = ap (λ (x : Token). sign_of v text x ∷ map (sign_of v text) us) h in record { rest = map (sign_of v text) us; whole = k; next = k; count = refl }
+at-token v text (u ∷ us) (suc n) token e = let a = at-token v text us n token e in
+    record { rest = a.rest; whole = ap (λ z. sign_of v text u ∷ z) a.whole; next = a.next; count = ap (λ m. suc m) a.count }
 
 record AtNone (signs : List Sign) (n : ℕ) : Type 0 where
   whole : take n signs ≡ signs
   none : drop n signs ≡ []
   short : length signs ≤ n
 
-at-none : (text : List ℕ) (tokens : List Token) (n : ℕ) → slice_get tokens n ≡ None → AtNone (signs_of text tokens) n
-at-none text [] zero e = record { whole = refl; none = refl; short = omega arith }
-at-none text [] (suc n) e = record { whole = refl; none = refl; short = omega arith }
-at-none text (u ∷ us) zero e = cc
-at-none text (u ∷ us) (suc n) e = let a = at-none text us n e in
-    let h = a.short in record { whole = ap (λ z. sign_of version.One text u ∷ z) a.whole; none = a.none; short = omega (arith, h) }
+at-none : (v : Version) (text : List ℕ) (tokens : List Token) (n : ℕ) → slice_get tokens n ≡ None → AtNone (map (sign_of v text) tokens) n
+at-none v text [] zero e = record { whole = refl; none = refl; short = omega arith }
+at-none v text [] (suc n) e = record { whole = refl; none = refl; short = omega arith }
+at-none v text (u ∷ us) zero e = cc
+at-none v text (u ∷ us) (suc n) e = let a = at-none v text us n e in
+    let h = a.short in record { whole = ap (λ z. sign_of v text u ∷ z) a.whole; none = a.none; short = omega (arith, h) }
 
 -- ---- programs that go on
 can-go-on : (signs : List Sign) (p : Place) → Known signs p → CanGoOn (take p.at signs)
@@ -148,12 +148,12 @@ unended signs p s k a h = record {
 }
 
 -- ---- what parsing answers
-on-line : (reason : List Sign → Sign → Type 0) (text : List ℕ) (tokens : List Token) (p : Place) (token : Token) → Known (signs_of text tokens) p → slice_get tokens p.at ≡ Some token → AtToken (signs_of text tokens) p.at (sign_of version.One text token)
-    → reason (take p.at (signs_of text tokens)) (sign_of version.One text token) → StopsOn reason text tokens token.line
-on-line reason text tokens p token k e a why = record {
+on-line : (reason : List Sign → Sign → Type 0) (text : List ℕ) (tokens : List Token) (p : Place) (token : Token) (t : Sign) → Known (signs_of text tokens) p → slice_get tokens p.at ≡ Some token → AtToken (signs_of text tokens) p.at t
+    → reason (take p.at (signs_of text tokens)) t → StopsOn reason text tokens token.line
+on-line reason text tokens p token t k e a why = record {
   front = take p.at (signs_of text tokens);
-  stop = sign_of version.One text token;
-  stops = stops-at (signs_of text tokens) p (sign_of version.One text token) k a;
+  stop = t;
+  stops = stops-at (signs_of text tokens) p t k a;
   why = why;
   token = token;
   there = ap (λ n. slice_get tokens n) a.count ∙ e;
@@ -162,10 +162,10 @@ on-line reason text tokens p token k e a why = record {
 
 fault : (text : List ℕ) (tokens : List Token) (p : Place) (s : Stop) (o : Option Token) → Known (signs_of text tokens) p → Halts (signs_of text tokens) p s → slice_get tokens p.at ≡ o
     → Parses text tokens (Err (stop_on text (option_map (λ t. t.line) o) s))
-fault text tokens p s None k h e = (unended (signs_of text tokens) p s k (at-none text tokens p.at e) h, refl)
-fault text tokens p stop.Unexpected (Some token) k h e = let a = at-token text tokens p.at token e in on-line IsUnexpected text tokens p token k e a (unexpected (signs_of text tokens) p (sign_of version.One text token) k a h)
-fault text tokens p stop.NumberTooLarge (Some token) k h e = let a = at-token text tokens p.at token e in on-line IsTooLarge text tokens p token k e a (too-large (signs_of text tokens) p (sign_of version.One text token) k a h)
-fault text tokens p stop.TooDeep (Some token) k h e = let a = at-token text tokens p.at token e in on-line IsTooDeep text tokens p token k e a (too-deep (signs_of text tokens) p (sign_of version.One text token) k a h)
+fault text tokens p s None k h e = (unended (signs_of text tokens) p s k (at-none (version_of text tokens) text tokens p.at e) h, refl)
+fault text tokens p stop.Unexpected (Some token) k h e = let a = at-token (version_of text tokens) text tokens p.at token e in on-line IsUnexpected text tokens p token _ k e a (unexpected (signs_of text tokens) p _ k a h)
+fault text tokens p stop.NumberTooLarge (Some token) k h e = let a = at-token (version_of text tokens) text tokens p.at token e in on-line IsTooLarge text tokens p token _ k e a (too-large (signs_of text tokens) p _ k a h)
+fault text tokens p stop.TooDeep (Some token) k h e = let a = at-token (version_of text tokens) text tokens p.at token e in on-line IsTooDeep text tokens p token _ k e a (too-deep (signs_of text tokens) p _ k a h)
 
 pub ends-parses : (text : List ℕ) (tokens : List Token) (e : ParseError) → Ends text tokens e → Parses text tokens (Err e)
 ends-parses text tokens e h =

@@ -1,6 +1,7 @@
 -- The turns of the loop that reads tokens
 use Rattle.std.proofs.Common.{◌≡◌, ℕ, zero, suc, ◌+◌, ◌*◌, ◌-◌, ◌<◌, ◌≤◌, Bool, true, false, List, [], ◌∷◌, length, Option, Some, None, refl, sym, ap, ◌∙◌, subst, arith, length-append}
 use Rattle.std.proofs.lemmas.List.Sums.{sum_by-append, sum_by-cons}
+use Rattle.std.proofs.lemmas.List.{length-map}
 use Rattle.qm_lex.specs.declared.tokens.Token.{Token}
 use Rattle.qm_parse.specs.declared.goals.Goal.{Goal}
 use Rattle.qm_parse.specs.declared.goals.Goal.TheVariants as goal
@@ -11,7 +12,7 @@ use Rattle.qm_parse.specs.declared.looks.Look.TheVariants as look
 use Rattle.qm_parse.specs.declared.tree.Node.{Node}
 use Rattle.qm_parse.specs.declared.tree.What.{What}
 use Rattle.qm_parse.specs.declared.words.Mark.TheVariants as mark
-use Rattle.qm_parse.specs.Signs.{Sign, signs_of}
+use Rattle.qm_parse.specs.Signs.{Sign, sign_of, signs_of, version_of}
 use Rattle.qm_parse.specs.Moves.{next_goals}
 use Rattle.qm_parse.specs.Verdicts.{verdict_of, leaf_of}
 use Rattle.qm_parse.specs.Weights.{weight_of, goals_weight, HasFewOperands}
@@ -19,18 +20,17 @@ use Rattle.qm_parse.specs.Reaching.{Place, start_place, with_stop, with_leaf, cl
 use Rattle.qm_parse.proofs.WeightLemmas.{weight-stay, weight-take, take-token}
 
 pub length-signs : (text : List ℕ) (tokens : List Token) → length (signs_of text tokens) ≡ length tokens
-length-signs text [] = refl
-length-signs text (t ∷ ts) = ap (λ n. suc n) (length-signs text ts)
+length-signs text tokens = length-map tokens (sign_of (version_of text tokens) text)
 
 -- what is left to do at a place
 abbrev pub left_of : List Sign → Place → ℕ
-left_of signs p = 32 * (length signs - p.at) + goals_weight p.goals
+left_of signs p = 72 * (length signs - p.at) + goals_weight p.goals
 
 pub record Going (signs : List Sign) (p : Place) : Type 0 where
   pub reaches : Reaches signs p
   pub within : p.at ≤ length signs
   pub deep : p.depth ≤ p.at
-  pub room : length p.nodes + left_of signs p ≤ 33554500
+  pub room : length p.nodes + left_of signs p ≤ 75497500
 
 pub Going-start : (signs : List Sign) (p : Place) → p ≡ start_place → length signs ≤ 1048576 → Going signs p
 Going-start signs p e h = subst (λ (q : Place). Going signs q) (sym e) (record { reaches = AtStart; within = omega arith; deep = omega arith; room = omega arith })
@@ -67,7 +67,7 @@ step : (signs : List Sign) (p : Place) (g : Goal) (rest : List Goal) (takes : Bo
 step signs p g rest true h e few v =
     let l = next_look signs p in
     let q = moved g l true (behind_goal p rest) in
-    let light : goals_weight (next_goals g l p.at (length p.nodes)) ≤ 31 = weight-take g l p.depth p.at (length p.nodes) few v in
+    let light : goals_weight (next_goals g l p.at (length p.nodes)) ≤ 71 = weight-take g l p.depth p.at (length p.nodes) few v in
     let both : goals_weight q.goals ≡ goals_weight (next_goals g l p.at (length p.nodes)) + goals_weight rest = sum_by-append weight_of (next_goals g l p.at (length p.nodes)) rest in
     let old : goals_weight p.goals ≡ weight_of g + goals_weight rest = ap goals_weight e ∙ sum_by-cons weight_of g rest in
     let more : length q.nodes ≤ length p.nodes + 1 = length-written g l p.at p.nodes in

@@ -4,9 +4,12 @@ use Rattle.std.specs.Prelude.{All}
 use Rattle.std.proofs.lemmas.List.Elements.{All-head, All-tail}
 use Rattle.qm_parse.specs.declared.words.Keyword.TheVariants as keyword
 use Rattle.qm_parse.specs.declared.words.Mark.TheVariants as mark
+use Rattle.qm_parse.specs.declared.words.Version.{Version}
+use Rattle.qm_parse.specs.declared.words.Version.TheVariants as version
+use Rattle.qm_parse.specs.Words.{version_number}
 use Rattle.qm_parse.specs.Signs.{Sign, Number, Key, Symbol}
 use Rattle.qm_parse.specs.Trees.{Expr, Sum, Adds, NoAdd, Add, Term, Product, Muls, NoMul, Mul, Prim, Num, Name, Rank, Size, Paren, Call, Body, Nothing, Then, Stmt, Do, DoUnder, For, Blocks, ForAll, ForEach, TapeLine, Program, ExprMay, AddsMay, TermMay, MulsMay, PrimMay, CallMay, BodyMay, StmtMay, BlocksMay, ProgramMay}
-use Rattle.qm_parse.specs.Spelling.{expr_signs, adds_signs, term_signs, muls_signs, prim_signs, operands_signs, call_signs, body_signs, stmt_signs, each_signs, blocks_signs, tapes_signs, program_signs}
+use Rattle.qm_parse.specs.Spelling.{expr_signs, adds_signs, term_signs, muls_signs, prim_signs, operands_signs, call_signs, body_signs, stmt_signs, each_signs, blocks_signs, tapes_signs, numbers_signs, program_signs}
 
 abbrev pub SmallSign : Sign → Type 0
 SmallSign (Number v) = v ≤ 2147483647
@@ -85,11 +88,23 @@ tapes-small ranks (t ∷ ts) l m =
     let low = All-head (λ (t : TapeLine). t.rank < ranks) t ts m in
     (tt, (omega (arith, l, low), (tt, tapes-small ranks ts l (All-tail (λ (t : TapeLine). t.rank < ranks) t ts m))))
 
+version-small : (v : Version) → version_number v ≤ 2147483647
+version-small version.One = omega arith
+version-small version.Two = omega arith
+
+numbers-small : (most : ℕ) (ns : List ℕ) → most ≤ 16 → All (λ n. (1 ≤ n) × (n ≤ most)) ns → Small (numbers_signs ns)
+numbers-small most [] l m = tt
+numbers-small most (n ∷ ns) l m =
+    let one = All-head (λ (n : ℕ). (1 ≤ n) × (n ≤ most)) n ns m in
+    (omega (arith, l, one.1), numbers-small most ns l (All-tail (λ (n : ℕ). (1 ≤ n) × (n ≤ most)) n ns m))
+
 pub program-small : (p : Program) → ProgramMay p → Small (program_signs p)
 program-small p m =
-    let one : 1 ≤ 2147483647 = omega arith in
     let ranks : p.ranks ≤ 2147483647 = omega (arith, m.few_ranks) in
-    let qubits : p.qubits ≤ 2147483647 = omega (arith, m.few_qubits) in
-    let buffer : p.buffer ≤ 2147483647 = omega (arith, m.small_buffer) in
+    let a : 16 ≤ 16 = omega arith in
+    let b : 8 ≤ 16 = omega arith in
     let rest = small-append (blocks_signs p.blocks) (tapes_signs p.tapes) (blocks-small p.ranks p.blocks m.few_ranks m.blocks) (tapes-small p.ranks p.tapes m.few_ranks m.tapes) in
-    (tt, (one, (tt, (ranks, (tt, (qubits, (tt, (buffer, rest))))))))
+    let buffers = small-append (numbers_signs p.buffers) (blocks_signs p.blocks ++ tapes_signs p.tapes) (numbers-small 8 p.buffers b m.buffers.each) rest in
+    let qubits = small-append (numbers_signs p.qubits) (Key keyword.Buffer ∷ (numbers_signs p.buffers ++ (blocks_signs p.blocks ++ tapes_signs p.tapes)))
+    (numbers-small 16 p.qubits a m.qubits.each) (tt, buffers) in
+    (tt, (version-small p.version, (tt, (ranks, (tt, qubits)))))

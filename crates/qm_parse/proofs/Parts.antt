@@ -7,17 +7,19 @@ use Rattle.qm_parse.specs.declared.goals.Goal.TheVariants as goal
 use Rattle.qm_parse.specs.declared.words.Keyword.TheVariants as keyword
 use Rattle.qm_parse.specs.declared.words.Mark.TheVariants as mark
 use Rattle.qm_parse.specs.declared.tree.What.TheVariants as what
-use Rattle.qm_parse.specs.Words.{bits_word, is_gate}
+use Rattle.qm_parse.specs.Words.{bits_word, is_gate, version_number}
 use Rattle.qm_parse.specs.Signs.{Sign, Number, Key, Act, Ident, Symbol}
 use Rattle.qm_parse.specs.Trees.{Expr, Adds, Muls, Prim, Call, Body, Blocks, TapeLine, Program, ExprMay, AddsMay, MulsMay, PrimMay, CallMay, BodyMay, BlocksMay, ProgramMay}
-use Rattle.qm_parse.specs.Spelling.{adds_signs, muls_signs, prim_signs, operands_signs, call_signs, body_signs, each_signs, blocks_signs, tapes_signs}
-use Rattle.qm_parse.proofs.Behind.{Spot, taken, leafed, noted, finished, behind_adds, behind_muls, behind_prim, behind_operands, behind_call, behind_body, behind_braced, behind_each, behind_blocks, behind_tapes, behind_rest}
+use Rattle.qm_parse.specs.Spelling.{adds_signs, muls_signs, prim_signs, operands_signs, call_signs, body_signs, each_signs, blocks_signs, tapes_signs, numbers_signs, sizes_signs}
+use Rattle.qm_parse.proofs.Behind.{Spot, taken, leafed, noted, finished, behind_adds, behind_muls, behind_prim, behind_operands, behind_call, behind_body, behind_braced, behind_each, behind_blocks, behind_tapes, behind_numbers, behind_rest, behind_version}
 
 -- ---- one goal
 abbrev pub Part : Goal → Type 0
 Part (goal.Fixed f) = Unit {0}
 Part (goal.Number least end written) = ℕ
-Part goal.Ranks = Program
+Part goal.Version = Program
+Part (goal.Ranks v) = Program
+Part (goal.Numbers left end) = List ℕ
 Part (goal.Blocks ranks) = Blocks
 Part (goal.Each next ranks) = List Body
 Part (goal.Tapes ranks) = List TapeLine
@@ -44,15 +46,16 @@ fixed_sign fixed.Dots = Symbol mark.Dots
 fixed_sign fixed.CloseBrace = Symbol mark.CloseBrace
 fixed_sign fixed.CloseParenthesis = Symbol mark.CloseParenthesis
 
--- what follows the number of ranks, and that number
+-- what follows the number of the version, and that number
 abbrev pub rest_signs : Program → List Sign
-rest_signs p =
-    Number p.ranks ∷ Key keyword.Qubits ∷ Number p.qubits ∷ Key keyword.Buffer ∷ Number p.buffer ∷ (blocks_signs p.blocks ++ tapes_signs p.tapes)
+rest_signs p = Number (version_number p.version) ∷ Key keyword.Ranks ∷ Number p.ranks ∷ sizes_signs p
 
 abbrev pub part_signs : (g : Goal) → Part g → List Sign
 part_signs (goal.Fixed f) p = fixed_sign f ∷ []
 part_signs (goal.Number least end written) p = Number p ∷ []
-part_signs goal.Ranks p = rest_signs p
+part_signs goal.Version p = rest_signs p
+part_signs (goal.Ranks v) p = Number p.ranks ∷ sizes_signs p
+part_signs (goal.Numbers left end) p = numbers_signs p
 part_signs (goal.Blocks ranks) p = blocks_signs p
 part_signs (goal.Each next ranks) p = each_signs next p
 part_signs (goal.Tapes ranks) p = tapes_signs p
@@ -71,7 +74,9 @@ part_signs (goal.Close node) p = []
 abbrev pub PartMay : (g : Goal) → Part g → Type 0
 PartMay (goal.Fixed f) p = Unit {0}
 PartMay (goal.Number least end written) p = (least ≤ p) × (p < end)
-PartMay goal.Ranks p = ProgramMay p
+PartMay goal.Version p = ProgramMay p
+PartMay (goal.Ranks v) p = (p.version ≡ v) × ProgramMay p
+PartMay (goal.Numbers left end) p = (length p ≡ left) × All (λ n. (1 ≤ n) × (n < end)) p
 PartMay (goal.Blocks ranks) p = BlocksMay ranks p
 PartMay (goal.Each next ranks) p = (length p ≡ ranks - next) × All BodyMay p
 PartMay (goal.Tapes ranks) p = All (λ t. t.rank < ranks) p
@@ -90,7 +95,9 @@ PartMay (goal.Close node) p = Unit {0}
 abbrev pub behind : (g : Goal) → Part g → Spot → Spot
 behind (goal.Fixed f) p s = taken s
 behind (goal.Number least end written) p s = if written then noted what.Num p s else taken s
-behind goal.Ranks p s = behind_rest p s
+behind goal.Version p s = behind_version p s
+behind (goal.Ranks v) p s = behind_rest p s
+behind (goal.Numbers left end) p s = behind_numbers p s
 behind (goal.Blocks ranks) p s = behind_blocks p s
 behind (goal.Each next ranks) p s = behind_each p s
 behind (goal.Tapes ranks) p s = behind_tapes p s
@@ -149,7 +156,8 @@ PartEnds (goal.Operands left) xs = NoHead is_op xs
 PartEnds goal.Gate xs = NoHead is_op xs
 PartEnds goal.Muls xs = NoHead is_mul xs
 PartEnds goal.Adds xs = NoHead is_op xs
-PartEnds goal.Ranks xs = NoHead is_tape_sign xs
+PartEnds goal.Version xs = NoHead is_tape_sign xs
+PartEnds (goal.Ranks v) xs = NoHead is_tape_sign xs
 PartEnds g xs = Unit {0}
 
 -- ---- goals in a row

@@ -16,25 +16,28 @@ use Rattle.qm_parse.specs.declared.tree.What.TheVariants as what
 use Rattle.qm_parse.specs.declared.words.Keyword.TheVariants as keyword
 use Rattle.qm_parse.specs.declared.words.Mark.TheVariants as mark
 use Rattle.qm_parse.specs.declared.words.Verb.{Verb}
-use Rattle.qm_parse.specs.Words.{takes_gate}
+use Rattle.qm_parse.specs.declared.words.Version.{Version}
+use Rattle.qm_parse.specs.declared.words.Version.TheVariants as version
+use Rattle.qm_parse.specs.Words.{takes_gate, version_number}
 use Rattle.qm_parse.specs.Signs.{Sign, Number, Key, Act, Ident, Symbol}
-use Rattle.qm_parse.specs.Looks.{capped, look_of, look_at}
+use Rattle.qm_parse.specs.Looks.{capped, look_of, look_at, version_seen}
 use Rattle.qm_parse.specs.Trees.{Times, Over, Rest, Plus, Minus, Adds, NoAdd, Add, Muls, NoMul, Mul, Prim, Num, Name, Rank, Size, Paren, Expr, Body, Nothing, Then, Do, DoUnder, For, Blocks, TapeLine, Program, PrimMay, ExprMay, BodyMay, BlocksMay}
-use Rattle.qm_parse.specs.Spelling.{prim_signs, muls_signs, adds_signs, operands_signs, body_signs, each_signs, blocks_signs, tapes_signs}
+use Rattle.qm_parse.specs.Spelling.{prim_signs, muls_signs, adds_signs, operands_signs, body_signs, each_signs, blocks_signs, tapes_signs, numbers_signs}
 use Rattle.qm_parse.specs.Verdicts.{is_fixed, verdict_if, stay_unless, number_verdict, is_rank, is_all, is_tape, is_statement, mul_op, add_op, verdict_of}
-use Rattle.qm_parse.specs.Moves.{each_goals, statement_goals, muls_goals, adds_goals, next_goals}
+use Rattle.qm_parse.specs.Moves.{number_goals, each_goals, statement_goals, muls_goals, adds_goals, next_goals}
 use Rattle.qm_parse.proofs.WeightLemmas.{verdict_if-stay, number-stay, prim-stay, braced-stay, stay_unless-stay}
 use Rattle.qm_parse.specs.Reaching.{with_leaf}
 use Rattle.qm_parse.proofs.Behind.{Spot, spot, met}
 use Rattle.qm_parse.proofs.Parts.{Part, Parts, PartMay, PartsMay, PartEnds, behind, part_signs, fixed_sign, NoHead, is_op, is_inner, is_tape_sign, Back, Forth}
 use Rattle.qm_parse.proofs.ExprSteps.{operand_goals, back-operand, forth-operand, forth-mul, forth-add, forth-paren}
 use Rattle.qm_parse.proofs.BodySteps.{forth-do, forth-under, forth-gate, forth-for, forth-braced}
-use Rattle.qm_parse.proofs.FrameSteps.{tape_key, back-blocks, forth-ranks, forth-all, forth-blocks, forth-each, forth-tape}
-use Rattle.qm_parse.proofs.Turns.{number-in, number-may, bits-are}
+use Rattle.qm_parse.proofs.FrameSteps.{tape_key, back-number, forth-number, back-blocks, forth-version, forth-ranks, forth-all, forth-blocks, forth-each, forth-tape}
+use Rattle.qm_parse.proofs.Turns.{number-in, number-may, bits-are, version-seen-is}
 
 -- what is known of each goal that comes next
 abbrev pub GoalOk : Goal → Type 0
 GoalOk (goal.Number least end w) = (least < end) × (end ≤ 2147483648)
+GoalOk (goal.Numbers left end) = (1 < end) × (end ≤ 2147483648)
 GoalOk (goal.Blocks ranks) = (1 ≤ ranks) × (ranks ≤ 16)
 GoalOk (goal.Each next ranks) = ranks ≤ 16
 GoalOk (goal.Tapes ranks) = (1 ≤ ranks) × (ranks ≤ 16)
@@ -83,6 +86,16 @@ stay-operands left s false k q m =
     let h : left ≤ 0 = grind (arith, nat_tests) in
     record { part = []; may = (omega arith, λ i d small. absurd (omega arith)); spelled = λ xs. refl; written = refl }
 
+stay-numbers : (left end : ℕ) (s : Spot) (b : Bool) → nat_lt 0 left ≡ b → (q : Parts (if b then number_goals (left - 1) end else [])) → PartsMay (if b then number_goals (left - 1) end else []) q
+    → Back (goal.Numbers left end) [] (if b then number_goals (left - 1) end else []) q s s
+stay-numbers left end s true k q m =
+    let h : 0 < left = grind (arith, nat_tests) in
+    let n : (left - 1) + 1 ≡ left = omega arith in
+    subst (λ (x : ℕ). Back (goal.Numbers x end) [] (number_goals (left - 1) end) q s s) n (back-number s (left - 1) end q m)
+stay-numbers left end s false k q m =
+    let h : left ≤ 0 = grind (arith, nat_tests) in
+    record { part = []; may = (omega arith, λ i d small. absurd (omega arith)); spelled = λ xs. refl; written = refl }
+
 stay-muls : (o : Option What) (s : Spot) → is_some o ≡ false → (q : Parts (muls_goals o s.at)) → Back goal.Muls [] (muls_goals o s.at) q s s
 stay-muls None s e q = record { part = NoMul; may = tt; spelled = λ xs. refl; written = refl }
 stay-muls (Some w) s e q = cc
@@ -95,7 +108,9 @@ pub back-stay : (g : Goal) (l : Look) (s : Spot) → verdict_of g l 0 ≡ verdic
     → Back g [] (next_goals g l s.at (length s.nodes)) q s (met g l false s)
 back-stay (goal.Fixed f) l s e q m = absurd (verdict_if-stay _ e)
 back-stay (goal.Number least end w) l s e q m = absurd (number-stay l least end e)
-back-stay goal.Ranks l s e q m = absurd (number-stay l 1 17 e)
+back-stay goal.Version l s e q m = absurd (number-stay l 1 3 e)
+back-stay (goal.Ranks v) l s e q m = absurd (number-stay l 1 17 e)
+back-stay (goal.Numbers left end) l s e q m = stay-numbers left end s (nat_lt 0 left) refl q m
 back-stay (goal.Blocks ranks) l s e q m = stay-blocks ranks s (is_all l) _ (stay_unless-stay _ e) q m
 back-stay (goal.Each next ranks) l s e q m = stay-each next ranks s l (nat_lt next ranks) refl e q
 back-stay (goal.Tapes ranks) l s e q m = stay-tapes ranks l s (stay_unless-stay _ e) q
@@ -153,6 +168,12 @@ goes-operands left at p xs true k n m h = let some : 0 < left = grind (arith, na
 goes-operands left at [] xs false k n m h = none-left xs xs refl
 goes-operands left at (e ∷ es) xs false k n m h = let none : left ≤ 0 = grind (arith, nat_tests) in absurd (omega (arith, n))
 
+goes-numbers : (left end : ℕ) (p : List ℕ) (xs : List Sign) (b : Bool) → nat_lt 0 left ≡ b → length p ≡ left → All (λ n. (1 ≤ n) × (n < end)) p
+    → Forth (if b then number_goals (left - 1) end else []) xs (numbers_signs p ++ xs)
+goes-numbers left end p xs true k n m = let some : 0 < left = grind (arith, nat_tests) in forth-number (left - 1) end p xs (omega (arith, n)) m
+goes-numbers left end [] xs false k n m = none-left xs xs refl
+goes-numbers left end (v ∷ vs) xs false k n m = let none : left ≤ 0 = grind (arith, nat_tests) in absurd (omega (arith, n))
+
 no-mul : (o : Option What) (at : ℕ) (xs : List Sign) → is_some o ≡ false → Forth (muls_goals o at) xs xs
 no-mul None at xs e = none-left xs xs refl
 no-mul (Some w) at xs e = cc
@@ -176,7 +197,9 @@ pub forth-stay : (g : Goal) (at base : ℕ) (p : Part g) (xs : List Sign) → Pa
     → Forth (next_goals g l at base) xs (part_signs g p ++ xs)
 forth-stay (goal.Fixed f) at base p xs m h e = absurd (verdict_if-stay _ e)
 forth-stay (goal.Number least end w) at base p xs m h e = absurd (number-stay (look_at (Number p ∷ xs)) least end e)
-forth-stay goal.Ranks at base p xs m h e = absurd (number-stay (look_at (Number p.ranks ∷ xs)) 1 17 e)
+forth-stay goal.Version at base p xs m h e = absurd (number-stay (look_at (Number (version_number p.version) ∷ xs)) 1 3 e)
+forth-stay (goal.Ranks v) at base p xs m h e = absurd (number-stay (look_at (Number p.ranks ∷ xs)) 1 17 e)
+forth-stay (goal.Numbers left end) at base p xs m h e = goes-numbers left end p xs (nat_lt 0 left) refl m.0 m.1
 forth-stay (goal.Blocks ranks) at base p xs m h e = goes-blocks ranks p xs (is_all (look_at (blocks_signs p ++ xs))) _ m refl (stay_unless-stay _ e)
 forth-stay (goal.Each next ranks) at base p xs m h e = goes-each next ranks base (look_at (each_signs next p ++ xs)) p xs (nat_lt next ranks) refl e m.0
 forth-stay (goal.Tapes ranks) at base p xs m h e = goes-tapes ranks base p xs _ (stay_unless-stay _ e)
@@ -209,12 +232,21 @@ goes-act : (v : Verb) (base : ℕ) (p : Body) (xs ts : List Sign) (b : Bool) →
 goes-act v base p xs ts true k m h e = forth-under v base p xs ts k m h e
 goes-act v base p xs ts false k m h e = forth-do v base p xs ts k m h e
 
-takes-ranks : (p : Program) (t : Sign) (at base : ℕ) (xs ts : List Sign) → PartMay goal.Ranks p → NoHead is_tape_sign xs → number_verdict (look_of t) 1 17 ≡ verdict.Take → part_signs goal.Ranks p ++ xs ≡ t ∷ ts
-    → Forth (next_goals goal.Ranks (look_of t) at base) xs ts
-takes-ranks p (Number v) at base xs ts m h k e =
-    let r = number-in 1 17 v k in
-    forth-ranks (capped v) p xs ts m h (e ∙ ap (λ (n : ℕ). Number n ∷ ts) (sym r.same))
-takes-ranks p t at base xs ts m h k e = cc
+takes-version : (p : Program) (t : Sign) (at base : ℕ) (xs ts : List Sign) → PartMay goal.Version p → NoHead is_tape_sign xs → number_verdict (look_of t) 1 3 ≡ verdict.Take → part_signs goal.Version p ++ xs ≡ t ∷ ts
+    → Forth (next_goals goal.Version (look_of t) at base) xs ts
+takes-version p (Number n) at base xs ts m h k e =
+    let r = number-in 1 3 n k in
+    let v : Version = version_seen (look.Number (capped n)) in
+    let is : version_number v ≡ capped n = version-seen-is (capped n) (omega (arith, r.low, r.same)) (omega (arith, r.high, r.same)) in
+    forth-version v p xs ts m h (e ∙ ap (λ (k : ℕ). Number k ∷ ts) (sym (is ∙ r.same)))
+takes-version p t at base xs ts m h k e = cc
+
+takes-ranks : (v : Version) (p : Program) (t : Sign) (at base : ℕ) (xs ts : List Sign) → PartMay (goal.Ranks v) p → NoHead is_tape_sign xs → number_verdict (look_of t) 1 17 ≡ verdict.Take
+    → part_signs (goal.Ranks v) p ++ xs ≡ t ∷ ts → Forth (next_goals (goal.Ranks v) (look_of t) at base) xs ts
+takes-ranks v p (Number n) at base xs ts m h k e =
+    let r = number-in 1 17 n k in
+    forth-ranks v (capped n) p xs ts m h (e ∙ ap (λ (k : ℕ). Number k ∷ ts) (sym r.same))
+takes-ranks v p t at base xs ts m h k e = cc
 
 takes-each : (next ranks base : ℕ) (p : List Body) (t : Sign) (xs ts : List Sign) (b : Bool) → nat_lt next ranks ≡ b → (if b then verdict_if (is_rank (look_of t)) else verdict.Stay) ≡ verdict.Take
     → length p ≡ ranks - next → All BodyMay p → each_signs next p ++ xs ≡ t ∷ ts → Forth (if b then each_goals next ranks base else []) xs ts
@@ -225,7 +257,9 @@ pub forth-take : (g : Goal) (t : Sign) (at base : ℕ) (p : Part g) (xs ts : Lis
     → Forth (next_goals g (look_of t) at base) xs ts
 forth-take (goal.Fixed f) t at base p xs ts o m h v e = none-left xs ts cc
 forth-take (goal.Number least end w) t at base p xs ts o m h v e = none-left xs ts cc
-forth-take goal.Ranks t at base p xs ts o m h v e = takes-ranks p t at base xs ts m h v e
+forth-take goal.Version t at base p xs ts o m h v e = takes-version p t at base xs ts m h v e
+forth-take (goal.Ranks w) t at base p xs ts o m h v e = takes-ranks w p t at base xs ts m h v e
+forth-take (goal.Numbers left end) t at base p xs ts o m h v e = cc
 forth-take (goal.Blocks ranks) (Key keyword.All) at base p xs ts o m h v e = forth-all ranks base p xs ts m o.0 e
 forth-take (goal.Blocks ranks) (Key k) at base p xs ts o m h v e = cc
 forth-take (goal.Blocks ranks) t at base p xs ts o m h v e = cc
@@ -301,11 +335,19 @@ prim-stop Rank xs s m e = cc
 prim-stop Size xs s m e = cc
 prim-stop (Paren inner) xs s m e = cc
 
+version-range : (v : Version) → (1 ≤ version_number v) × (version_number v < 3)
+version-range version.One = (omega arith, omega arith)
+version-range version.Two = (omega arith, omega arith)
+
 -- no part of a goal, before tokens that may follow it, begins with a token that stops it
 pub no-stop : (g : Goal) (p : Part g) (xs : List Sign) (s : Stop) → GoalOk g → PartMay g p → verdict_of g (look_at (part_signs g p ++ xs)) 0 ≡ verdict.Stop s → ⊥
 no-stop (goal.Fixed f) p xs s o m e = both _ s (if-take _ (fixed-take f)) e
 no-stop (goal.Number least end w) p xs s o m e = both _ s (number-may least end p m.0 m.1 o.1) e
-no-stop goal.Ranks p xs s o m e = let few : 17 ≤ 2147483648 = omega arith in both _ s (number-may 1 17 p.ranks m.some_ranks (omega (arith, m.few_ranks)) few) e
+no-stop goal.Version p xs s o m e =
+    let r = version-range p.version in
+    let few : 3 ≤ 2147483648 = omega arith in both _ s (number-may 1 3 (version_number p.version) r.0 r.1 few) e
+no-stop (goal.Ranks v) p xs s o m e = let few : 17 ≤ 2147483648 = omega arith in both _ s (number-may 1 17 p.ranks m.1.some_ranks (omega (arith, m.1.few_ranks)) few) e
+no-stop (goal.Numbers left end) p xs s o m e = cc
 no-stop (goal.Blocks ranks) p xs s o m e = stay_unless-stop _ s e
 no-stop (goal.Each next ranks) p xs s o m e = each-stop next ranks p xs s (nat_lt next ranks) refl m.0 e
 no-stop (goal.Tapes ranks) p xs s o m e = stay_unless-stop _ s e

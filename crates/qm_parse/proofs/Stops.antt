@@ -20,8 +20,11 @@ use Rattle.qm_parse.specs.declared.words.Mark.{Mark}
 use Rattle.qm_parse.specs.declared.words.Mark.TheVariants as mark
 use Rattle.qm_parse.specs.declared.words.Operand.TheVariants as operand
 use Rattle.qm_parse.specs.declared.words.Verb.{Verb}
+use Rattle.qm_parse.specs.declared.words.Version.{Version}
+use Rattle.qm_parse.specs.declared.words.Version.TheVariants as version
+use Rattle.qm_parse.specs.Words.{size_count}
 use Rattle.qm_parse.specs.Signs.{Sign, Number, Key, Act, Ident, Symbol}
-use Rattle.qm_parse.specs.Trees.{Sum, Product, NoAdd, NoMul, Num, Nothing, Expr, ForAll, ExprMay, BodyMay}
+use Rattle.qm_parse.specs.Trees.{Sum, Product, NoAdd, NoMul, Num, Nothing, Expr, ForAll, Program, ExprMay, BodyMay, SizesMay, ProgramMay}
 use Rattle.qm_parse.specs.Faults.{open_behind, open_after, IsShallow}
 use Rattle.qm_parse.specs.Looks.{capped, look_of}
 use Rattle.qm_parse.specs.Verdicts.{is_fixed, verdict_if, stay_unless, number_verdict, open_verdict, is_rank, verdict_of}
@@ -45,13 +48,30 @@ pub record Some_part (g : Goal) : Type 0 where
 abbrev gate_verb : Verb
 gate_verb = record { action = action.One one.X; operands = Some operand.Slot ∷ None ∷ None ∷ None ∷ [] }
 
+-- one rank with one slot and a buffer of one
+abbrev one_program : Version → Program
+one_program v = record { version = v; ranks = 1; qubits = 1 ∷ []; buffers = 1 ∷ []; blocks = ForAll Nothing; tapes = [] }
+
+one_size : (v : Version) (most : ℕ) → 1 ≤ most → SizesMay (size_count v 1) most (1 ∷ [])
+one_size version.One most h = let a : 1 ≤ 1 = omega arith in record { count = refl; each = All-replicate (λ n. (1 ≤ n) × (n ≤ most)) 1 1 (a, h) }
+one_size version.Two most h = let a : 1 ≤ 1 = omega arith in record { count = refl; each = All-replicate (λ n. (1 ≤ n) × (n ≤ most)) 1 1 (a, h) }
+
+one_may : (v : Version) → ProgramMay (one_program v)
+one_may v = let a : 1 ≤ 16 = omega arith in let b : 1 ≤ 8 = omega arith in record {
+  some_ranks = omega arith;
+  few_ranks = omega arith;
+  qubits = one_size v 16 a;
+  buffers = one_size v 8 b;
+  blocks = tt;
+  tapes = no_tapes 1;
+}
+
 pub some-part : (g : Goal) → GoalOk g → Some_part g
 some-part (goal.Fixed f) o = record { part = tt; may = tt }
 some-part (goal.Number least end w) o = let h : least ≤ least = omega arith in record { part = least; may = (h, o.0) }
-some-part goal.Ranks o = record {
-  part = record { ranks = 1; qubits = 1; buffer = 1; blocks = ForAll Nothing; tapes = [] };
-  may = record { some_ranks = omega arith; few_ranks = omega arith; some_qubits = omega arith; few_qubits = omega arith; some_buffer = omega arith; small_buffer = omega arith; blocks = tt; tapes = no_tapes 1 };
-}
+some-part goal.Version o = record { part = one_program version.One; may = one_may version.One }
+some-part (goal.Ranks v) o = record { part = one_program v; may = (refl, one_may v) }
+some-part (goal.Numbers left end) o = let a : 1 ≤ 1 = omega arith in record { part = replicate left 1; may = (length-replicate left 1, All-replicate (λ n. (1 ≤ n) × (n < end)) left 1 (a, o.0)) }
 some-part (goal.Blocks ranks) o = record { part = ForAll Nothing; may = tt }
 some-part (goal.Each next ranks) o = record { part = replicate (ranks - next) Nothing; may = (length-replicate (ranks - next) Nothing, All-replicate BodyMay (ranks - next) Nothing tt) }
 some-part (goal.Tapes ranks) o = record { part = []; may = no_tapes ranks }
@@ -119,10 +139,15 @@ large-number least end w (Number v) o e = let low : least ≤ least = omega arit
     record { value = v; number = refl; large = is-large v least end e; small = least; taken = number-may least end least low o.0 o.1 }
 large-number least end w t o e = cc
 
-large-ranks : (t : Sign) → number_verdict (look_of t) 1 17 ≡ verdict.Stop stop.NumberTooLarge → Large goal.Ranks t
-large-ranks (Number v) e = let a : 1 ≤ 1 = omega arith in let b : 1 < 17 = omega arith in let c : 17 ≤ 2147483648 = omega arith in
+large-version : (t : Sign) → number_verdict (look_of t) 1 3 ≡ verdict.Stop stop.NumberTooLarge → Large goal.Version t
+large-version (Number v) e = let a : 1 ≤ 1 = omega arith in let b : 1 < 3 = omega arith in let c : 3 ≤ 2147483648 = omega arith in
+    record { value = v; number = refl; large = is-large v 1 3 e; small = 1; taken = number-may 1 3 1 a b c }
+large-version t e = cc
+
+large-ranks : (w : Version) (t : Sign) → number_verdict (look_of t) 1 17 ≡ verdict.Stop stop.NumberTooLarge → Large (goal.Ranks w) t
+large-ranks w (Number v) e = let a : 1 ≤ 1 = omega arith in let b : 1 < 17 = omega arith in let c : 17 ≤ 2147483648 = omega arith in
     record { value = v; number = refl; large = is-large v 1 17 e; small = 1; taken = number-may 1 17 1 a b c }
-large-ranks t e = cc
+large-ranks w t e = cc
 
 large-prim : (t : Sign) (depth : ℕ) → verdict_of goal.Prim (look_of t) depth ≡ verdict.Stop stop.NumberTooLarge → Large goal.Prim t
 large-prim (Number v) depth e = let a : 0 ≤ 0 = omega arith in let b : 0 < 2147483648 = omega arith in let c : 2147483648 ≤ 2147483648 = omega arith in
@@ -141,7 +166,9 @@ large-braced t depth e = cc
 pub stop-large : (g : Goal) (t : Sign) (depth : ℕ) → GoalOk g → verdict_of g (look_of t) depth ≡ verdict.Stop stop.NumberTooLarge → Large g t
 stop-large (goal.Fixed f) t depth o e = if-large (is_fixed f (look_of t)) e
 stop-large (goal.Number least end w) t depth o e = large-number least end w t o e
-stop-large goal.Ranks t depth o e = large-ranks t e
+stop-large goal.Version t depth o e = large-version t e
+stop-large (goal.Ranks v) t depth o e = large-ranks v t e
+stop-large (goal.Numbers left end) t depth o e = cc
 stop-large (goal.Blocks ranks) t depth o e = stay-large _ e
 stop-large (goal.Each next ranks) t depth o e = each-large (nat_lt next ranks) (is_rank (look_of t)) e
 stop-large (goal.Tapes ranks) t depth o e = stay-large _ e
@@ -206,7 +233,9 @@ deep-braced t depth e = cc
 pub stop-deep : (g : Goal) (t : Sign) (depth : ℕ) → verdict_of g (look_of t) depth ≡ verdict.Stop stop.TooDeep → Deep g t depth
 stop-deep (goal.Fixed f) t depth e = if-deep (is_fixed f (look_of t)) e
 stop-deep (goal.Number least end w) t depth e = number-deep (look_of t) least end e
-stop-deep goal.Ranks t depth e = number-deep (look_of t) 1 17 e
+stop-deep goal.Version t depth e = number-deep (look_of t) 1 3 e
+stop-deep (goal.Ranks v) t depth e = number-deep (look_of t) 1 17 e
+stop-deep (goal.Numbers left end) t depth e = cc
 stop-deep (goal.Blocks ranks) t depth e = stay-deep _ e
 stop-deep (goal.Each next ranks) t depth e = each-deep (nat_lt next ranks) (is_rank (look_of t)) e
 stop-deep (goal.Tapes ranks) t depth e = stay-deep _ e
@@ -254,7 +283,8 @@ fixed-number f n = refl
 pub number-unexpected : (g : Goal) (v n : ℕ) → 2147483647 < v → verdict_of g (look.Number (capped v)) 0 ≡ verdict.Stop stop.Unexpected → verdict_of g (look.Number n) 0 ≡ verdict.Stop stop.Unexpected
 number-unexpected (goal.Fixed f) v n h e = ap verdict_if (fixed-number f n)
 number-unexpected (goal.Number least end w) v n h e = absurd (number-large v least end h e)
-number-unexpected goal.Ranks v n h e = absurd (number-large v 1 17 h e)
+number-unexpected goal.Version v n h e = absurd (number-large v 1 3 h e)
+number-unexpected (goal.Ranks w) v n h e = absurd (number-large v 1 17 h e)
 number-unexpected goal.Prim v n h e = absurd (number-large v 0 2147483648 h e)
 number-unexpected g v n h e = e
 

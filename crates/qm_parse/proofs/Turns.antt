@@ -14,19 +14,20 @@ use Rattle.qm_parse.specs.declared.tree.What.TheVariants as what
 use Rattle.qm_parse.specs.declared.words.Keyword.TheVariants as keyword
 use Rattle.qm_parse.specs.declared.words.Mark.TheVariants as mark
 use Rattle.qm_parse.specs.declared.words.Verb.{Verb}
-use Rattle.qm_parse.specs.Words.{bits_word, takes_gate}
+use Rattle.qm_parse.specs.declared.words.Version.{Version}
+use Rattle.qm_parse.specs.Words.{bits_word, takes_gate, version_number}
 use Rattle.qm_parse.specs.Signs.{Sign, Number, Key, Act, Ident, Symbol}
-use Rattle.qm_parse.specs.Looks.{capped, is_outcome, is_bits, look_of}
+use Rattle.qm_parse.specs.Looks.{capped, is_outcome, is_bits, look_of, version_seen}
 use Rattle.qm_parse.specs.Trees.{Times, Over, Rest, Plus, Minus, Num, Name, Rank, Size}
 use Rattle.qm_parse.specs.Verdicts.{is_fixed, verdict_if, stay_unless, number_verdict, is_rank, is_all, is_tape, is_statement, verdict_of}
-use Rattle.qm_parse.specs.Moves.{each_goals, next_goals}
+use Rattle.qm_parse.specs.Moves.{version_goals, each_goals, next_goals}
 use Rattle.qm_parse.specs.Reaching.{with_leaf}
 use Rattle.qm_parse.proofs.WordLemmas.{and-left, and-right, capped-small, capped-large}
 use Rattle.qm_parse.proofs.Behind.{Spot, spot, met, taken, noted}
 use Rattle.qm_parse.proofs.Parts.{Part, Parts, PartMay, PartsMay, part_signs, fixed_sign, behind, Back}
 use Rattle.qm_parse.proofs.ExprSteps.{back-mul, back-add, back-paren}
 use Rattle.qm_parse.proofs.BodySteps.{back-do, back-under, back-gate, back-for, back-braced}
-use Rattle.qm_parse.proofs.FrameSteps.{rank_goals, back-ranks, back-all, back-each, back-tape}
+use Rattle.qm_parse.proofs.FrameSteps.{rank_goals, back-version, back-ranks, back-all, back-each, back-tape}
 
 -- ---- what a verdict says of the token
 pub verdict_if-take : (b : Bool) → verdict_if b ≡ verdict.Take → b ≡ true
@@ -131,13 +132,26 @@ take-number least end true (Number v) s e =
 take-number least end false (Number v) s e = let r = number-in least end v e in alone (goal.Number least end false) (Number v) s _ v (r.low, r.high) refl refl
 take-number least end w t s e = cc
 
-take-ranks : (t : Sign) (s : Spot) → number_verdict (look_of t) 1 17 ≡ verdict.Take → Takes goal.Ranks t s (next_goals goal.Ranks (look_of t) s.at (length s.nodes))
-take-ranks (Number v) s e q m =
-    let r = number-in 1 17 v e in
-    let low : 1 ≤ capped v = omega (arith, r.low, r.same) in
-    let high : capped v ≤ 16 = omega (arith, r.high, r.same) in
-    subst (λ (n : ℕ). Back goal.Ranks (Number n ∷ []) (rank_goals (capped v)) q s (noted what.Num (capped v) s)) r.same (back-ranks (capped v) s q low high m)
-take-ranks t s e q m = cc
+-- the number of the version that a number names
+pub version-seen-is : (n : ℕ) → 1 ≤ n → n < 3 → version_number (version_seen (look.Number n)) ≡ n
+version-seen-is n low high = grind (arith, nat_tests)
+
+take-version : (t : Sign) (s : Spot) → number_verdict (look_of t) 1 3 ≡ verdict.Take → Takes goal.Version t s (next_goals goal.Version (look_of t) s.at (length s.nodes))
+take-version (Number n) s e q m =
+    let r = number-in 1 3 n e in
+    let v : Version = version_seen (look.Number (capped n)) in
+    let is : version_number v ≡ capped n = version-seen-is (capped n) (omega (arith, r.low, r.same)) (omega (arith, r.high, r.same)) in
+    subst (λ (k : ℕ). Back goal.Version (Number k ∷ []) (version_goals v) q s (noted what.Num (capped n) s)) r.same
+    (subst (λ (k : ℕ). Back goal.Version (Number k ∷ []) (version_goals v) q s (noted what.Num k s)) is (back-version v s q m))
+take-version t s e q m = cc
+
+take-ranks : (v : Version) (t : Sign) (s : Spot) → number_verdict (look_of t) 1 17 ≡ verdict.Take → Takes (goal.Ranks v) t s (next_goals (goal.Ranks v) (look_of t) s.at (length s.nodes))
+take-ranks v (Number n) s e q m =
+    let r = number-in 1 17 n e in
+    let low : 1 ≤ capped n = omega (arith, r.low, r.same) in
+    let high : capped n ≤ 16 = omega (arith, r.high, r.same) in
+    subst (λ (k : ℕ). Back (goal.Ranks v) (Number k ∷ []) (rank_goals v (capped n)) q s (noted what.Num (capped n) s)) r.same (back-ranks v (capped n) s q low high m)
+take-ranks v t s e q m = cc
 
 take-blocks : (ranks : ℕ) (t : Sign) (s : Spot) → stay_unless (is_all (look_of t)) ≡ verdict.Take
     → Takes (goal.Blocks ranks) t s (next_goals (goal.Blocks ranks) (look_of t) s.at (length s.nodes))
@@ -222,7 +236,9 @@ take-adds t s e q m = cc
 pub back-take : (g : Goal) (t : Sign) (s : Spot) → verdict_of g (look_of t) 0 ≡ verdict.Take → Takes g t s (next_goals g (look_of t) s.at (length s.nodes))
 back-take (goal.Fixed f) t s e q m = alone (goal.Fixed f) t s _ tt tt (ap (λ z. z ∷ []) (fixed-is f t (verdict_if-take _ e))) refl
 back-take (goal.Number least end w) t s e q m = take-number least end w t s e
-back-take goal.Ranks t s e q m = take-ranks t s e q m
+back-take goal.Version t s e q m = take-version t s e q m
+back-take (goal.Ranks v) t s e q m = take-ranks v t s e q m
+back-take (goal.Numbers left end) t s e q m = cc
 back-take (goal.Blocks ranks) t s e q m = take-blocks ranks t s e q m
 back-take (goal.Each next ranks) t s e q m = take-each next ranks t s (nat_lt next ranks) refl e q m
 back-take (goal.Tapes ranks) t s e q m = take-tapes ranks t s e q m

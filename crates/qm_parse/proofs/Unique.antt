@@ -5,15 +5,17 @@ use Rattle.std.proofs.lemmas.List.Elements.{All-head, All-tail}
 use Rattle.qm_parse.specs.declared.words.Keyword.TheVariants as keyword
 use Rattle.qm_parse.specs.declared.words.Mark.TheVariants as mark
 use Rattle.qm_parse.specs.declared.words.Verb.{Verb}
-use Rattle.qm_parse.specs.Words.{operands_of, takes_gate, bits_word}
+use Rattle.qm_parse.specs.declared.words.Version.{Version}
+use Rattle.qm_parse.specs.Words.{operands_of, takes_gate, bits_word, size_count}
 use Rattle.qm_parse.specs.Signs.{Sign, Number, Key, Act, Ident, Symbol}
 use Rattle.qm_parse.specs.Trees.{AddOp, Plus, Minus, MulOp, Times, Over, Rest, Expr, Sum, Adds, NoAdd, Add, Term, Product, Muls, NoMul, Mul, Prim, Num, Name, Rank, Size, Paren, Call, Body, Nothing, Then, Stmt, Do, DoUnder, For, Blocks, ForAll, ForEach, TapeLine, Program, CallMay, BodyMay, StmtMay, BlocksMay}
-use Rattle.qm_parse.specs.Spelling.{add_mark, mul_mark, expr_signs, adds_signs, term_signs, muls_signs, prim_signs, operands_signs, call_signs, body_signs, stmt_signs, each_signs, blocks_signs, tapes_signs}
+use Rattle.qm_parse.specs.Spelling.{add_mark, mul_mark, expr_signs, adds_signs, term_signs, muls_signs, prim_signs, operands_signs, call_signs, body_signs, stmt_signs, each_signs, blocks_signs, tapes_signs, numbers_signs}
 use Rattle.qm_parse.specs.Faults.{Spells}
 use Rattle.qm_parse.proofs.ListLemmas.{head-same, tail-same}
 use Rattle.qm_parse.proofs.Parts.{NoHead, is_mul, is_op, is_inner}
 use Rattle.qm_parse.proofs.ExprSteps.{absurd-head, adds-no_mul, operands-no_op, mul_mark-is, add_mark-is}
 use Rattle.qm_parse.proofs.BodySteps.{body-no_op}
+use Rattle.qm_parse.proofs.FrameSteps.{version-same}
 
 -- ---- tokens
 number-same : {v w : ℕ} → Number v ≡ Number w → v ≡ w
@@ -220,19 +222,33 @@ tapes-same (t ∷ ts) (u ∷ us) e =
     let rest = tapes-same ts us (tail-same (tail-same (tail-same e))) in
     ap (λ x. line x t.rank t.outcomes ∷ ts) own ∙ ap (λ x. line u.own x t.outcomes ∷ ts) rank ∙ ap (λ x. line u.own u.rank x ∷ ts) outcomes ∙ ap (λ x. u ∷ x) rest
 
-abbrev whole : ℕ → ℕ → ℕ → Blocks → List TapeLine → Program
-whole ranks qubits buffer blocks tapes = record { ranks = ranks; qubits = qubits; buffer = buffer; blocks = blocks; tapes = tapes }
+numbers-same : (ms ns : List ℕ) (xs ys : List Sign) → length ms ≡ length ns → numbers_signs ms ++ xs ≡ numbers_signs ns ++ ys → (ms ≡ ns) × (xs ≡ ys)
+numbers-same [] [] xs ys l e = (refl, e)
+numbers-same [] (n ∷ ns) xs ys l e = absurd (omega (arith, l))
+numbers-same (m ∷ ms) [] xs ys l e = absurd (omega (arith, l))
+numbers-same (m ∷ ms) (n ∷ ns) xs ys l e =
+    let one : m ≡ n = number-same (head-same e) in
+    let more = numbers-same ms ns xs ys (omega (arith, l)) (tail-same e) in
+    (ap (λ (x : ℕ). x ∷ ms) one ∙ ap (λ z. n ∷ z) more.0, more.1)
+
+abbrev whole : Version → ℕ → List ℕ → List ℕ → Blocks → List TapeLine → Program
+whole v ranks qubits buffers blocks tapes = record { version = v; ranks = ranks; qubits = qubits; buffers = buffers; blocks = blocks; tapes = tapes }
 
 pub program-same : (signs : List Sign) (p q : Program) → Spells signs p → Spells signs q → p ≡ q
 program-same signs p q s t =
     let e = s.spelled ∙ sym t.spelled in
+    let v : p.version ≡ q.version = version-same p.version q.version (number-same (head-same (tail-same e))) in
     let f = tail-same (tail-same (tail-same e)) in
     let ranks : p.ranks ≡ q.ranks = number-same (head-same f) in
+    let count : size_count p.version p.ranks ≡ size_count q.version q.ranks = ap (λ w. size_count w p.ranks) v ∙ ap (size_count q.version) ranks in
     let g = tail-same (tail-same f) in
-    let qubits : p.qubits ≡ q.qubits = number-same (head-same g) in
-    let h = tail-same (tail-same g) in
-    let buffer : p.buffer ≡ q.buffer = number-same (head-same h) in
-    let b = blocks-same p.ranks p.blocks q.blocks (tapes_signs p.tapes) (tapes_signs q.tapes) s.may.some_ranks s.may.blocks (subst (λ n. BlocksMay n q.blocks) (sym ranks) t.may.blocks) (tail-same h) in
+    let a = numbers-same p.qubits q.qubits (Key keyword.Buffer ∷ (numbers_signs p.buffers ++ (blocks_signs p.blocks ++ tapes_signs p.tapes)))
+    (Key keyword.Buffer ∷ (numbers_signs q.buffers ++ (blocks_signs q.blocks ++ tapes_signs q.tapes)))
+    (s.may.qubits.count ∙ count ∙ sym t.may.qubits.count) g in
+    let c = numbers-same p.buffers q.buffers (blocks_signs p.blocks ++ tapes_signs p.tapes) (blocks_signs q.blocks ++ tapes_signs q.tapes)
+    (s.may.buffers.count ∙ count ∙ sym t.may.buffers.count) (tail-same a.1) in
+    let b = blocks-same p.ranks p.blocks q.blocks (tapes_signs p.tapes) (tapes_signs q.tapes) s.may.some_ranks s.may.blocks (subst (λ n. BlocksMay n q.blocks) (sym ranks) t.may.blocks) c.1 in
     let tapes = tapes-same p.tapes q.tapes b.1 in
-    ap (λ x. whole x p.qubits p.buffer p.blocks p.tapes) ranks ∙ ap (λ x. whole q.ranks x p.buffer p.blocks p.tapes) qubits ∙ ap (λ x. whole q.ranks q.qubits x p.blocks p.tapes) buffer
-    ∙ ap (λ x. whole q.ranks q.qubits q.buffer x p.tapes) b.0 ∙ ap (λ x. whole q.ranks q.qubits q.buffer q.blocks x) tapes
+    ap (λ x. whole x p.ranks p.qubits p.buffers p.blocks p.tapes) v ∙ ap (λ x. whole q.version x p.qubits p.buffers p.blocks p.tapes) ranks
+    ∙ ap (λ x. whole q.version q.ranks x p.buffers p.blocks p.tapes) a.0 ∙ ap (λ x. whole q.version q.ranks q.qubits x p.blocks p.tapes) c.0
+    ∙ ap (λ x. whole q.version q.ranks q.qubits q.buffers x p.tapes) b.0 ∙ ap (λ x. whole q.version q.ranks q.qubits q.buffers q.blocks x) tapes

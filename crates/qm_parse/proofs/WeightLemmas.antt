@@ -14,11 +14,13 @@ use Rattle.qm_parse.specs.declared.tree.What.{What}
 use Rattle.qm_parse.specs.declared.tree.What.TheVariants as what
 use Rattle.qm_parse.specs.declared.words.Keyword.TheVariants as keyword
 use Rattle.qm_parse.specs.declared.words.Mark.TheVariants as mark
-use Rattle.qm_parse.specs.Words.{takes_gate}
+use Rattle.qm_parse.specs.declared.words.Version.{Version}
+use Rattle.qm_parse.specs.declared.words.Version.TheVariants as version
+use Rattle.qm_parse.specs.Words.{takes_gate, size_count}
 use Rattle.qm_parse.specs.Signs.{Sign}
 use Rattle.qm_parse.specs.Looks.{look_at}
 use Rattle.qm_parse.specs.Verdicts.{is_fixed, verdict_if, stay_unless, number_verdict, prim_verdict, braced_verdict, is_all, is_tape, is_rank, is_statement, mul_op, add_op, verdict_of}
-use Rattle.qm_parse.specs.Moves.{ranks_goals, each_goals, statement_goals, gate_goals, muls_goals, adds_goals, prim_goals, next_goals}
+use Rattle.qm_parse.specs.Moves.{ranks_goals, number_goals, each_goals, statement_goals, gate_goals, muls_goals, adds_goals, prim_goals, next_goals}
 use Rattle.qm_parse.specs.Weights.{weight_of, goals_weight, HasFewOperands}
 
 -- ---- verdicts
@@ -84,10 +86,16 @@ operands-stay : (left at : ℕ) (l : Look) (b : Bool) → nat_lt 0 left ≡ b
 operands-stay left at l true e = let h : 0 < left = grind (arith, nat_tests) in omega arith
 operands-stay left at l false e = omega arith
 
+numbers-stay : (left end : ℕ) (b : Bool) → nat_lt 0 left ≡ b → goals_weight (if b then number_goals (left - 1) end else []) < 2 * left + 1
+numbers-stay left end true e = let h : 0 < left = grind (arith, nat_tests) in omega arith
+numbers-stay left end false e = omega arith
+
 pub weight-stay : (g : Goal) (l : Look) (depth at base : ℕ) → verdict_of g l depth ≡ verdict.Stay → goals_weight (next_goals g l at base) < weight_of g
 weight-stay (goal.Fixed f) l depth at base e = absurd (verdict_if-stay _ e)
 weight-stay (goal.Number least end w) l depth at base e = absurd (number-stay l least end e)
-weight-stay goal.Ranks l depth at base e = absurd (number-stay l 1 17 e)
+weight-stay goal.Version l depth at base e = absurd (number-stay l 1 3 e)
+weight-stay (goal.Ranks v) l depth at base e = absurd (number-stay l 1 17 e)
+weight-stay (goal.Numbers left end) l depth at base e = numbers-stay left end (nat_lt 0 left) refl
 weight-stay (goal.Blocks ranks) l depth at base e = blocks-stay ranks base (is_all l) (stay_unless-stay _ e)
 weight-stay (goal.Each next ranks) l depth at base e = each-stay next ranks base l (nat_lt next ranks) e
 weight-stay (goal.Tapes ranks) l depth at base e = tapes-stay (is_tape l) _ (stay_unless-stay _ e)
@@ -104,42 +112,57 @@ weight-stay (goal.Leaf w token) l depth at base e = omega arith
 weight-stay (goal.Close node) l depth at base e = omega arith
 
 -- ---- a goal that takes one
-if-weight : (b : Bool) (gs hs : List Goal) → goals_weight gs ≤ 31 → goals_weight hs ≤ 31 → goals_weight (if b then gs else hs) ≤ 31
+if-weight : (b : Bool) (gs hs : List Goal) → goals_weight gs ≤ 71 → goals_weight hs ≤ 71 → goals_weight (if b then gs else hs) ≤ 71
 if-weight true gs hs g h = g
 if-weight false gs hs g h = h
 
-ranks-take : (l : Look) → goals_weight (ranks_goals l) ≤ 31
-ranks-take (look.Number v) = omega arith
-ranks-take l = omega arith
+-- a number that is taken is below the end of its range
+number-below : (n least end : ℕ) → number_verdict (look.Number n) least end ≡ verdict.Take → n < end
+number-below n least end e = by_tests (nat_lt 2147483647 n) (nat_le least n) (nat_lt n end) refl e
+  where
+    by_tests : (a b c : Bool) → nat_lt n end ≡ c → (if a then verdict.Stop stop.NumberTooLarge else verdict_if (b && c)) ≡ verdict.Take → n < end
+    by_tests true b c k f = cc
+    by_tests false false c k f = cc
+    by_tests false true false k f = cc
+    by_tests false true true k f = grind (arith, nat_tests)
 
-statement-take : (l : Look) (base : ℕ) → HasFewOperands l → goals_weight (statement_goals l base) ≤ 31
+count-below : (v : Version) (n : ℕ) → n < 17 → size_count v n ≤ 16
+count-below version.One n h = omega arith
+count-below version.Two n h = omega (arith, h)
+
+ranks-take : (v : Version) (l : Look) → number_verdict l 1 17 ≡ verdict.Take → goals_weight (ranks_goals v l) ≤ 71
+ranks-take v (look.Number n) e = let few = count-below v n (number-below n 1 17 e) in omega (arith, few)
+ranks-take v l e = omega arith
+
+statement-take : (l : Look) (base : ℕ) → HasFewOperands l → goals_weight (statement_goals l base) ≤ 71
 statement-take (look.Verb v) base h = if-weight (takes_gate v.action) _ _ (omega (arith, h)) (omega (arith, h))
 statement-take (look.Keyword keyword.For) base h = omega arith
 statement-take l base h = omega arith
 
-gate-take : (l : Look) (base : ℕ) → HasFewOperands l → goals_weight (gate_goals l base) ≤ 31
+gate-take : (l : Look) (base : ℕ) → HasFewOperands l → goals_weight (gate_goals l base) ≤ 71
 gate-take (look.Verb v) base h = omega (arith, h)
 gate-take l base h = omega arith
 
-prim-take : (l : Look) → goals_weight (prim_goals l) ≤ 31
+prim-take : (l : Look) → goals_weight (prim_goals l) ≤ 71
 prim-take (look.Mark mark.OpenParenthesis) = omega arith
 prim-take l = omega arith
 
-muls-take : (o : Option What) (at : ℕ) → goals_weight (muls_goals o at) ≤ 31
+muls-take : (o : Option What) (at : ℕ) → goals_weight (muls_goals o at) ≤ 71
 muls-take None at = omega arith
 muls-take (Some w) at = omega arith
 
-adds-take : (o : Option What) (at : ℕ) → goals_weight (adds_goals o at) ≤ 31
+adds-take : (o : Option What) (at : ℕ) → goals_weight (adds_goals o at) ≤ 71
 adds-take None at = omega arith
 adds-take (Some w) at = omega arith
 
-pub weight-take : (g : Goal) (l : Look) (depth at base : ℕ) → HasFewOperands l → verdict_of g l depth ≡ verdict.Take → goals_weight (next_goals g l at base) ≤ 31
-weight-take goal.Ranks l depth at base h e = ranks-take l
+pub weight-take : (g : Goal) (l : Look) (depth at base : ℕ) → HasFewOperands l → verdict_of g l depth ≡ verdict.Take → goals_weight (next_goals g l at base) ≤ 71
+weight-take (goal.Ranks v) l depth at base h e = ranks-take v l e
 weight-take (goal.Blocks ranks) l depth at base h e = if-weight (is_all l) _ _ (omega arith) (omega arith)
 weight-take (goal.Each next ranks) l depth at base h e = if-weight (nat_lt next ranks) _ _ (omega arith) (omega arith)
 weight-take (goal.Tapes ranks) l depth at base h e = if-weight (is_tape l) _ _ (omega arith) (omega arith)
 weight-take goal.Body l depth at base h e = statement-take l base h
 weight-take goal.Braced l depth at base h e = omega arith
+weight-take (goal.Numbers left end) l depth at base h e = cc
 weight-take (goal.Operands left) l depth at base h e = cc
 weight-take goal.Gate l depth at base h e = gate-take l base h
 weight-take goal.Prim l depth at base h e = prim-take l

@@ -1,16 +1,17 @@
 -- Words, numbers and the table of reserved words
-use Rattle.std.proofs.Common.{◌≡◌, ℕ, ◌+◌, ◌-◌, ◌*◌, ◌<◌, ◌≤◌, Bool, true, false, List, [], ◌∷◌, map, nat_le, Option, Some, None, refl, sym, ap, ◌∙◌, arith, ◌&&◌}
+use Rattle.std.proofs.Common.{◌≡◌, ℕ, ◌+◌, ◌-◌, ◌*◌, ◌<◌, ◌≤◌, Bool, true, false, List, [], ◌∷◌, ◌++◌, map, nat_le, Option, Some, None, refl, sym, ap, ◌∙◌, arith, ◌&&◌}
 use Rattle.std.specs.Prelude.{fold, find, option_map, count_by, is_some}
+use Rattle.std.specs.Option.{option_or}
 use Rattle.std.specs.List.{list_all}
 use Rattle.std.specs.Str.{bytes_eq}
 use Rattle.std.proofs.lemmas.Bool.Decides.{nat_tests}
 use Rattle.qm_parse.specs.declared.words.Reserved.{Reserved}
 use Rattle.qm_parse.specs.declared.words.Reserved.TheVariants as reserved
 use Rattle.qm_parse.specs.declared.table.Entry.{Entry}
-use Rattle.qm_parse.specs.declared.table.TheConstants.{WORDS}
+use Rattle.qm_parse.specs.declared.table.TheConstants.{WORDS, NEWER}
 use Rattle.qm_parse.specs.declared.words.Version.{Version}
 use Rattle.qm_parse.specs.declared.words.Version.TheVariants as version
-use Rattle.qm_parse.specs.Words.{Word, words, meaning, reserved_of}
+use Rattle.qm_parse.specs.Words.{Word, words, older_words, newer_words, meaning, reserved_of}
 use Rattle.qm_parse.specs.Laws.{SameWords, word_in, without_spaces, entry_meaning}
 use Rattle.qm_parse.specs.Signs.{word_sign}
 use Rattle.qm_parse.specs.Looks.{capped, look_of}
@@ -47,7 +48,7 @@ fold-capped n bs = by_test (nat_le n 2147483647) refl
 
 -- ---- the table
 pub same_words : SameWords
-same_words = refl
+same_words = record { older = refl; newer = refl }
 
 -- a word means the same by entries as by the words that they are
 same_meaning : (bytes : List ℕ) (entries : List Entry) → entry_meaning entries bytes ≡ meaning (map word_in entries) bytes
@@ -59,8 +60,24 @@ same_meaning bytes (e ∷ es) = by_test (same_meaning bytes es) (bytes_eq bytes 
     by_test more true t = rw t refl
     by_test more false t = rw t more
 
-pub found_word : (v : Version) (bytes : List ℕ) → entry_meaning WORDS bytes ≡ reserved_of v bytes
-found_word version.One bytes = same_meaning bytes WORDS ∙ ap (λ table. meaning table bytes) same_words
+-- a word of two tables means what the first says of it, where the first has it
+both_tables : (xs ys : List Word) (bytes : List ℕ) → meaning (xs ++ ys) bytes ≡ option_or (meaning xs bytes) (meaning ys bytes)
+both_tables [] ys bytes = refl
+both_tables (w ∷ ws) ys bytes = by_test (both_tables ws ys bytes) (bytes_eq bytes w.bytes) refl
+  where
+    by_test : meaning (ws ++ ys) bytes ≡ option_or (meaning ws bytes) (meaning ys bytes) → (t : Bool) → bytes_eq bytes w.bytes ≡ t
+        → meaning ((w ∷ ws) ++ ys) bytes ≡ option_or (meaning (w ∷ ws) bytes) (meaning ys bytes)
+    by_test more true t = rw t refl
+    by_test more false t = rw t more
+
+pub found_word : (bytes : List ℕ) → entry_meaning WORDS bytes ≡ reserved_of version.One bytes
+found_word bytes = same_meaning bytes WORDS ∙ ap (λ table. meaning table bytes) same_words.older
+
+pub found_newer : (bytes : List ℕ) → option_or (entry_meaning NEWER bytes) (entry_meaning WORDS bytes) ≡ reserved_of version.Two bytes
+found_newer bytes =
+    ap (λ o. option_or o (entry_meaning WORDS bytes)) (same_meaning bytes NEWER ∙ ap (λ table. meaning table bytes) same_words.newer)
+    ∙ ap (λ o. option_or (meaning newer_words bytes) o) (found_word bytes)
+    ∙ sym (both_tables newer_words older_words bytes)
 
 -- each verb of the table has four operands at most
 abbrev few : Reserved → Bool
@@ -89,6 +106,7 @@ few-found bytes (w ∷ ws) e = by_test (few-found bytes ws (and-right _ _ e)) (b
 
 few-words : (v : Version) → list_all (λ w. few w.means) (words v) ≡ true
 few-words version.One = refl
+few-words version.Two = refl
 
 pub few-word : (v : Version) (word : List ℕ) → HasFewOperands (look_of (word_sign word (reserved_of v word)))
 few-word v word = by_meaning (reserved_of v word) (few-found word (words v) (few-words v))

@@ -7,10 +7,10 @@ use Rattle.qm_lex.specs.Lexing.{end_line, tokens_of}
 use Rattle.qm_parse.specs.declared.errors.ParseError.{ParseError}
 use Rattle.qm_parse.specs.declared.errors.ParseError.TheVariants.{Unexpected, NumberTooLarge, TooDeep, Unended, Memory}
 use Rattle.qm_parse.specs.declared.table.Entry.{Entry}
-use Rattle.qm_parse.specs.declared.table.TheConstants.{WORDS}
+use Rattle.qm_parse.specs.declared.table.TheConstants.{WORDS, NEWER}
 use Rattle.qm_parse.specs.declared.words.Reserved.{Reserved}
 use Rattle.qm_parse.specs.declared.words.Version.TheVariants as version
-use Rattle.qm_parse.specs.Words.{Word, words}
+use Rattle.qm_parse.specs.Words.{Word, words, newer_words}
 use Rattle.qm_parse.specs.Signs.{Sign, signs_of}
 use Rattle.qm_parse.specs.Trees.{Program}
 use Rattle.qm_parse.specs.Faults.{Spells, IsUnexpected, IsTooLarge, IsTooDeep, IsUnended}
@@ -55,6 +55,7 @@ word_in entry = record { bytes = without_spaces entry.word; means = entry.means 
 abbrev pub entry_meaning : List Entry → List ℕ → Option Reserved
 entry_meaning entries bytes = option_map (λ entry. entry.means) (find (λ entry. bytes_eq bytes (without_spaces entry.word)) entries)
 
--- the code's table has the reserved words of version 1
-abbrev pub SameWords : Type 0
-SameWords = map word_in WORDS ≡ words version.One
+-- the code's tables have the reserved words of version 1, and those that mean something else in version 2
+pub record SameWords : Type 0 where
+  pub older : map word_in WORDS ≡ words version.One
+  pub newer : map word_in NEWER ≡ newer_words

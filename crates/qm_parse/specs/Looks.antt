@@ -6,6 +6,8 @@ use Rattle.qm_limits.specs.declared.TheConstants.{LARGEST_VALUE}
 use Rattle.qm_parse.specs.declared.looks.Look.{Look}
 use Rattle.qm_parse.specs.declared.looks.Look.TheVariants as look
 use Rattle.qm_parse.specs.declared.words.Verb.{Verb}
+use Rattle.qm_parse.specs.declared.words.Version.{Version}
+use Rattle.qm_parse.specs.declared.words.Version.TheVariants as version
 use Rattle.qm_parse.specs.Signs.{Sign, Number, Key, Act, Ident, Symbol, signs_of}
 
 -- a number, or the first one that is too large
@@ -42,6 +44,11 @@ looks_of text tokens = map look_of (signs_of text tokens)
 abbrev pub look_next : List Look → Look
 look_next [] = look.End
 look_next (l ∷ ls) = l
+
+-- the version that a look names where a version stands
+abbrev pub version_seen : Look → Version
+version_seen (look.Number v) = if v == 2 then version.Two else version.One
+version_seen l = version.One
 
 -- the instruction or collective that a look is
 abbrev pub verb_seen : Look → Option Verb

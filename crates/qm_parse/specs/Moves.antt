@@ -12,24 +12,35 @@ use Rattle.qm_parse.specs.declared.tree.What.TheVariants as what
 use Rattle.qm_parse.specs.declared.words.Keyword.TheVariants as keyword
 use Rattle.qm_parse.specs.declared.words.Mark.TheVariants as mark
 use Rattle.qm_parse.specs.declared.words.Verb.{Verb}
-use Rattle.qm_parse.specs.Words.{takes_gate}
+use Rattle.qm_parse.specs.declared.words.Version.{Version}
+use Rattle.qm_parse.specs.Words.{takes_gate, size_count}
+use Rattle.qm_parse.specs.Looks.{version_seen}
 use Rattle.qm_parse.specs.Verdicts.{is_all, is_tape, mul_op, add_op}
 
 -- from the next goal to the last one
 abbrev pub goals_left : Goals → List Goal
 goals_left goals = reverse goals.items.items
 
--- of a whole text: the head as far as the number of ranks, behind which the rest follows
+-- of a whole text: the head as far as the number of its version, behind which the rest follows
 abbrev pub start_goals : List Goal
-start_goals = goal.Fixed fixed.Qmpi ∷ goal.Number 1 2 true ∷ goal.Fixed fixed.Ranks ∷ goal.Ranks ∷ []
+start_goals = goal.Fixed fixed.Qmpi ∷ goal.Version ∷ []
 
 -- ---- of the frame; base is the number of the next node
--- behind the number of ranks: the two sizes, the blocks and the tapes
-abbrev pub ranks_goals : Look → List Goal
-ranks_goals (look.Number ranks) =
-    goal.Fixed fixed.Qubits ∷ goal.Number 1 (SLOTS + 1) true ∷ goal.Fixed fixed.Buffer ∷ goal.Number 1 (MOST_HALVES + 1) true
+-- behind the version: the number of ranks, behind which the rest follows
+abbrev pub version_goals : Version → List Goal
+version_goals v = goal.Fixed fixed.Ranks ∷ goal.Ranks v ∷ []
+
+-- behind the number of ranks: their slots, their buffers, the blocks and the tapes
+abbrev pub ranks_goals : Version → Look → List Goal
+ranks_goals v (look.Number ranks) =
+    goal.Fixed fixed.Qubits ∷ goal.Numbers (size_count v ranks) (SLOTS + 1)
+    ∷ goal.Fixed fixed.Buffer ∷ goal.Numbers (size_count v ranks) (MOST_HALVES + 1)
     ∷ goal.Blocks ranks ∷ goal.Tapes ranks ∷ []
-ranks_goals l = []
+ranks_goals v l = []
+
+-- one number, and so many behind it
+abbrev pub number_goals : ℕ → ℕ → List Goal
+number_goals left end = goal.Number 1 end true ∷ goal.Numbers left end ∷ []
 
 -- the rest of a rank's block, and the blocks of the ranks behind it
 abbrev pub each_goals : ℕ → ℕ → ℕ → List Goal
@@ -38,7 +49,9 @@ each_goals next ranks base =
 
 -- of each goal of the frame
 abbrev pub frame_goals : Goal → Look → ℕ → List Goal
-frame_goals goal.Ranks l base = ranks_goals l
+frame_goals goal.Version l base = version_goals (version_seen l)
+frame_goals (goal.Ranks v) l base = ranks_goals v l
+frame_goals (goal.Numbers left end) l base = if nat_lt 0 left then number_goals (left - 1) end else []
 frame_goals (goal.Blocks ranks) l base =
     if is_all l then goal.Body ∷ goal.Close base ∷ goal.Fixed fixed.End ∷ [] else goal.Each 0 ranks ∷ []
 frame_goals (goal.Each next ranks) l base = if nat_lt next ranks then each_goals next ranks base else []

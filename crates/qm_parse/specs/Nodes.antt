@@ -4,6 +4,7 @@ use Rattle.qm_parse.specs.declared.tree.Node.{Node}
 use Rattle.qm_parse.specs.declared.tree.What.{What}
 use Rattle.qm_parse.specs.declared.tree.What.TheVariants as what
 use Rattle.qm_parse.specs.Trees.{AddOp, Plus, Minus, MulOp, Times, Over, Rest, Expr, Sum, Adds, NoAdd, Add, Term, Product, Muls, NoMul, Mul, Prim, Num, Name, Rank, Size, Paren, Call, Body, Nothing, Then, Stmt, Do, DoUnder, For, Blocks, ForAll, ForEach, TapeLine, Program}
+use Rattle.qm_parse.specs.Words.{version_number}
 use Rattle.qm_parse.specs.Spelling.{expr_signs, term_signs, prim_signs, call_signs, body_signs, stmt_signs, blocks_signs}
 
 -- a node with nothing behind it that belongs to it; number is its own
@@ -105,9 +106,27 @@ tapes_nodes at base (t ∷ ts) =
     (leaf what.Num (at + 1) t.rank (base + 1) ∷ leaf what.Bits (at + 2) 0 (base + 2) ∷ [])
     ++ tapes_nodes (at + 3) (base + 3) ts
 
--- the four numbers of the head, the blocks, the tape lines
+-- numbers, one behind the other
+abbrev pub numbers_nodes : (at base : ℕ) → List ℕ → List Node
+numbers_nodes at base [] = []
+numbers_nodes at base (n ∷ ns) = leaf what.Num at n base ∷ numbers_nodes (at + 1) (base + 1) ns
+
+-- the first token and the first node behind the head
+abbrev pub head_tokens : Program → ℕ
+head_tokens p = 6 + length p.qubits + length p.buffers
+
+abbrev pub head_nodes : Program → ℕ
+head_nodes p = 2 + length p.qubits + length p.buffers
+
+-- the blocks, and the tape lines behind them
+abbrev pub rest_nodes : (at base : ℕ) → Program → List Node
+rest_nodes at base p =
+    let blocks = blocks_nodes at base p.blocks in
+    blocks ++ tapes_nodes (at + length (blocks_signs p.blocks)) (base + length blocks) p.tapes
+
+-- the numbers of the head, the blocks, the tape lines
 abbrev pub program_nodes : Program → List Node
 program_nodes p =
-    let blocks = blocks_nodes 8 4 p.blocks in
-    leaf what.Num 1 1 0 ∷ leaf what.Num 3 p.ranks 1 ∷ leaf what.Num 5 p.qubits 2 ∷ leaf what.Num 7 p.buffer 3
-    ∷ (blocks ++ tapes_nodes (8 + length (blocks_signs p.blocks)) (4 + length blocks) p.tapes)
+    leaf what.Num 1 (version_number p.version) 0 ∷ leaf what.Num 3 p.ranks 1
+    ∷ (numbers_nodes 5 2 p.qubits ++ (numbers_nodes (6 + length p.qubits) (2 + length p.qubits) p.buffers
+    ++ rest_nodes (head_tokens p) (head_nodes p) p))

@@ -1,5 +1,5 @@
 -- Tokens as the grammar sees them
-use Rattle.std.specs.Prelude.{ℕ, ◌==◌, if◌then◌else◌, List, map, slice_range, slice_index, Option, Some, None}
+use Rattle.std.specs.Prelude.{ℕ, ◌==◌, if◌then◌else◌, List, map, slice_get, slice_range, slice_index, Option, Some, None, option_map}
 use Rattle.qm_lex.specs.declared.tokens.Token.{Token}
 use Rattle.qm_lex.specs.declared.tokens.TokenKind.{TokenKind}
 use Rattle.qm_lex.specs.declared.tokens.TokenKind.TheVariants as kind
@@ -55,9 +55,18 @@ bytes_of text t = slice_range text t.start t.stop
 abbrev pub sign_of : Version → List ℕ → Token → Sign
 sign_of v text t = sign v t.kind (bytes_of text t)
 
--- the tokens of a text, in their order. Each text is one of version 1
+-- the version that a token names where a version stands: 2 by its number, and 1 by any other, for with another no program begins
+abbrev pub version_by : Option Sign → Version
+version_by (Some (Number v)) = if v == 2 then version.Two else version.One
+version_by s = version.One
+
+-- the version of a text, which its second token names
+abbrev pub version_of : List ℕ → List Token → Version
+version_of text tokens = version_by (option_map (sign_of version.One text) (slice_get tokens 1))
+
+-- the tokens of a text, in their order
 abbrev pub signs_of : List ℕ → List Token → List Sign
-signs_of text tokens = map (sign_of version.One text) tokens
+signs_of text tokens = map (sign_of (version_of text tokens) text) tokens
 
 -- the instruction or collective that a token names
 abbrev pub verb_of : Sign → Option Verb

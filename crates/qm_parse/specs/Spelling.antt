@@ -3,7 +3,7 @@ use Rattle.std.specs.Prelude.{ℕ, ◌+◌, if◌then◌else◌, List, [], ◌�
 use Rattle.qm_parse.specs.declared.words.Keyword.TheVariants as keyword
 use Rattle.qm_parse.specs.declared.words.Mark.{Mark}
 use Rattle.qm_parse.specs.declared.words.Mark.TheVariants as mark
-use Rattle.qm_parse.specs.Words.{bits_word}
+use Rattle.qm_parse.specs.Words.{bits_word, version_number}
 use Rattle.qm_parse.specs.Signs.{Sign, Number, Key, Act, Ident, Symbol}
 use Rattle.qm_parse.specs.Trees.{AddOp, Plus, Minus, MulOp, Times, Over, Rest, Expr, Sum, Adds, NoAdd, Add, Term, Product, Muls, NoMul, Mul, Prim, Num, Name, Rank, Size, Paren, Call, Body, Nothing, Then, Stmt, Do, DoUnder, For, Blocks, ForAll, ForEach, TapeLine, Program}
 
@@ -80,9 +80,18 @@ abbrev pub tapes_signs : List TapeLine → List Sign
 tapes_signs [] = []
 tapes_signs (t ∷ ts) = tape_signs t ++ tapes_signs ts
 
+-- numbers, one behind the other
+abbrev pub numbers_signs : List ℕ → List Sign
+numbers_signs [] = []
+numbers_signs (n ∷ ns) = Number n ∷ numbers_signs ns
+
+-- behind the number of ranks: their sizes, the blocks, the tapes
+abbrev pub sizes_signs : Program → List Sign
+sizes_signs p =
+    Key keyword.Qubits ∷ (numbers_signs p.qubits
+    ++ Key keyword.Buffer ∷ (numbers_signs p.buffers ++ (blocks_signs p.blocks ++ tapes_signs p.tapes)))
+
 -- a whole program: its head, its blocks, its tapes
 abbrev pub program_signs : Program → List Sign
 program_signs p =
-    Key keyword.Qmpi ∷ Number 1 ∷ Key keyword.Ranks ∷ Number p.ranks ∷ Key keyword.Qubits ∷ Number p.qubits
-    ∷ Key keyword.Buffer ∷ Number p.buffer
-    ∷ (blocks_signs p.blocks ++ tapes_signs p.tapes)
+    Key keyword.Qmpi ∷ Number (version_number p.version) ∷ Key keyword.Ranks ∷ Number p.ranks ∷ sizes_signs p

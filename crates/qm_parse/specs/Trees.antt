@@ -2,7 +2,8 @@
 use Rattle.std.specs.Prelude.{◌≡◌, ℕ, ◌<◌, ◌≤◌, Bool, true, false, List, length, All}
 use Rattle.qm_limits.specs.declared.TheConstants.{LARGEST_VALUE, MOST_RANKS, SLOTS, MOST_HALVES}
 use Rattle.qm_parse.specs.declared.words.Verb.{Verb}
-use Rattle.qm_parse.specs.Words.{operands_of, is_gate, takes_gate}
+use Rattle.qm_parse.specs.declared.words.Version.{Version}
+use Rattle.qm_parse.specs.Words.{operands_of, is_gate, takes_gate, size_count}
 
 -- operators of one level
 pub data AddOp : Type 0 where
@@ -69,10 +70,13 @@ pub record TapeLine : Type 0 where
   pub outcomes : List Bool
 
 -- program = "qmpi" "1" "ranks" NUM "qubits" NUM "buffer" NUM blocks tapes
+--         | "qmpi" "2" "ranks" NUM "qubits" NUM^N "buffer" NUM^N blocks tapes
+-- NUM^N is a number for each rank, from rank 0 on.
 pub record Program : Type 0 where
+  pub version : Version
   pub ranks : ℕ
-  pub qubits : ℕ
-  pub buffer : ℕ
+  pub qubits : List ℕ
+  pub buffers : List ℕ
   pub blocks : Blocks
   pub tapes : List TapeLine
 
@@ -122,13 +126,16 @@ abbrev pub BlocksMay : ℕ → Blocks → Type 0
 BlocksMay ranks (ForAll body) = BodyMay body
 BlocksMay ranks (ForEach bodies) = (length bodies ≡ ranks) × All BodyMay bodies
 
--- some ranks, qubits and places of a buffer, but none too many; each tape is that of a rank
+-- so many sizes, each from 1 to the largest
+pub record SizesMay (many most : ℕ) (sizes : List ℕ) : Type 0 where
+  pub count : length sizes ≡ many
+  pub each : All (λ n. (1 ≤ n) × (n ≤ most)) sizes
+
+-- some ranks, but not too many, with their sizes; each tape is that of a rank
 pub record ProgramMay (p : Program) : Type 0 where
   pub some_ranks : 1 ≤ p.ranks
   pub few_ranks : p.ranks ≤ MOST_RANKS
-  pub some_qubits : 1 ≤ p.qubits
-  pub few_qubits : p.qubits ≤ SLOTS
-  pub some_buffer : 1 ≤ p.buffer
-  pub small_buffer : p.buffer ≤ MOST_HALVES
+  pub qubits : SizesMay (size_count p.version p.ranks) SLOTS p.qubits
+  pub buffers : SizesMay (size_count p.version p.ranks) MOST_HALVES p.buffers
   pub blocks : BlocksMay p.ranks p.blocks
   pub tapes : All (λ t. t.rank < p.ranks) p.tapes

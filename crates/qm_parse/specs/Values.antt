@@ -15,7 +15,7 @@ use Rattle.qm_parse.specs.declared.words.Verb.{Verb}
 use Rattle.qm_parse.specs.declared.words.Version.TheVariants as version
 use Rattle.qm_parse.specs.Words.{reserved_of, operands_of, bits_word}
 use Rattle.qm_parse.specs.Signs.{Sign, Symbol, signs_of}
-use Rattle.qm_parse.specs.Trees.{Plus, Times, Expr, Sum, NoAdd, Add, Product, NoMul, Mul, Prim, Num, Name, Rank, Paren, Nothing, Then, Stmt, DoUnder, For, ForEach, Program}
+use Rattle.qm_parse.specs.Trees.{Plus, Times, Expr, Sum, NoAdd, Add, Product, NoMul, Mul, Prim, Num, Name, Rank, Paren, Nothing, Then, Stmt, DoUnder, For, ForAll, ForEach, Program}
 use Rattle.qm_parse.specs.Spelling.{program_signs}
 use Rattle.qm_parse.specs.Nodes.{program_nodes}
 use Rattle.qm_parse.specs.Faults.{open_after}
@@ -40,6 +40,13 @@ operands_bcast = refl
 
 word_protocol : reserved_of version.One (codes "protocol") ≡ Some (reserved.Keyword keyword.Protocol)
 word_protocol = refl
+
+-- in version 2 nothing begins with the word for undoing a reduction, and it is no name; the others are those of version 1
+word_unreduce : reserved_of version.Two (codes "unreduce") ≡ Some (reserved.Keyword keyword.Unreduce)
+word_unreduce = refl
+
+word_reduce : reserved_of version.Two (codes "reduce") ≡ reserved_of version.One (codes "reduce")
+word_reduce = refl
 
 -- names: no beginning of a reserved word, no capital, no tree form of a broadcast
 word_b : reserved_of version.One (codes "b") ≡ None
@@ -75,9 +82,10 @@ loop = For (codes "i")
 -- the tree of the text
 abbrev program : Program
 program = record {
+  version = version.One;
   ranks = 2;
-  qubits = 3;
-  buffer = 4;
+  qubits = 3 ∷ [];
+  buffers = 4 ∷ [];
   blocks = ForEach (Then loop Nothing ∷ Nothing ∷ []);
   tapes = record { own = true; rank = 1; outcomes = false ∷ true ∷ [] } ∷ [];
 }
@@ -106,6 +114,31 @@ program_written : program_nodes program ≡
     ∷ node what.Block 29 0 21
     ∷ node what.Own 32 0 24 ∷ node what.Num 33 1 23 ∷ node what.Bits 34 0 24 ∷ []
 program_written = refl
+
+-- ---- a program of version 2
+-- two ranks, each with its own number of slots and its own buffer
+abbrev wide_text : List ℕ
+wide_text = codes "qmpi 02 ranks 2 qubits 3 16 buffer 4 1 all end protocol 0 b"
+
+abbrev wide_program : Program
+wide_program = record {
+  version = version.Two;
+  ranks = 2;
+  qubits = 3 ∷ 16 ∷ [];
+  buffers = 4 ∷ 1 ∷ [];
+  blocks = ForAll Nothing;
+  tapes = record { own = false; rank = 0; outcomes = [] } ∷ [];
+}
+
+wide_spelled : program_signs wide_program ≡ signs_in wide_text (tokens_of wide_text)
+wide_spelled = refl
+
+wide_written : program_nodes wide_program ≡
+    node what.Num 1 2 1 ∷ node what.Num 3 2 2
+    ∷ node what.Num 5 3 3 ∷ node what.Num 6 16 4 ∷ node what.Num 8 4 5 ∷ node what.Num 9 1 6
+    ∷ node what.All 10 0 7
+    ∷ node what.Protocol 12 0 10 ∷ node what.Num 13 0 9 ∷ node what.Bits 14 0 10 ∷ []
+wide_written = refl
 
 -- ---- open braces and parentheses
 -- so many parentheses that open

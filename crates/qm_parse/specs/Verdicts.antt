@@ -14,6 +14,7 @@ use Rattle.qm_parse.specs.declared.tree.What.{What}
 use Rattle.qm_parse.specs.declared.tree.What.TheVariants as what
 use Rattle.qm_parse.specs.declared.words.Keyword.TheVariants as keyword
 use Rattle.qm_parse.specs.declared.words.Mark.TheVariants as mark
+use Rattle.qm_parse.specs.declared.words.TheConstants.{NEWEST}
 use Rattle.qm_parse.specs.Words.{is_gate}
 
 -- whether a token is this word or symbol, which stands alone
@@ -115,7 +116,9 @@ is_statement l = false
 abbrev pub verdict_of : Goal → Look → ℕ → Verdict
 verdict_of (goal.Fixed f) l depth = verdict_if (is_fixed f l)
 verdict_of (goal.Number least end written) l depth = number_verdict l least end
-verdict_of goal.Ranks l depth = number_verdict l 1 (MOST_RANKS + 1)
+verdict_of goal.Version l depth = number_verdict l 1 (NEWEST + 1)
+verdict_of (goal.Ranks v) l depth = number_verdict l 1 (MOST_RANKS + 1)
+verdict_of (goal.Numbers left end) l depth = verdict.Stay
 verdict_of (goal.Blocks ranks) l depth = stay_unless (is_all l)
 verdict_of (goal.Each next ranks) l depth = if nat_lt next ranks then verdict_if (is_rank l) else verdict.Stay
 verdict_of (goal.Tapes ranks) l depth = stay_unless (is_tape l)
@@ -171,7 +174,9 @@ prim_leaf l = None
 abbrev pub leaf_of : Goal → Look → ℕ → Option (What × ℕ × ℕ)
 leaf_of (goal.Fixed f) l at = None
 leaf_of (goal.Number least end written) l at = if written then leaf_at at (number_leaf l) else None
-leaf_of goal.Ranks l at = leaf_at at (number_leaf l)
+leaf_of goal.Version l at = leaf_at at (number_leaf l)
+leaf_of (goal.Ranks v) l at = leaf_at at (number_leaf l)
+leaf_of (goal.Numbers left end) l at = None
 leaf_of (goal.Blocks ranks) l at = if is_all l then Some (what.All, at, 0) else None
 leaf_of (goal.Each next ranks) l at = if nat_lt next ranks then Some (what.Block, at, 0) else None
 leaf_of (goal.Tapes ranks) l at = leaf_at at (tape_leaf l)

@@ -8,6 +8,7 @@ use Rattle.qm_parse.specs.declared.looks.Look.TheVariants as look
 -- how many steps a goal makes, without those of the tokens that it takes
 abbrev pub weight_of : Goal → ℕ
 weight_of (goal.Operands left) = 5 * left + 1
+weight_of (goal.Numbers left end) = 2 * left + 1
 weight_of (goal.Blocks ranks) = 2
 weight_of g = 1
 

@@ -93,9 +93,18 @@ frame_words =
     ∷ frame_word (codes "in") keyword.In
     ∷ []
 
+-- the words of version 1
+abbrev pub older_words : List Word
+older_words = instruction_words ++ collective_words ++ frame_words
+
+-- the words of version 2 that mean something else there, before which those of version 1 don't count
+abbrev pub newer_words : List Word
+newer_words = frame_word (codes "unreduce") keyword.Unreduce ∷ []
+
 -- all reserved words of a version
 abbrev pub words : Version → List Word
-words version.One = instruction_words ++ collective_words ++ frame_words
+words version.One = older_words
+words version.Two = newer_words ++ older_words
 
 -- ---- what words mean
 -- what a word means by a table; none where the table hasn't it
@@ -121,6 +130,17 @@ is_gate _ = false
 abbrev pub takes_gate : Action → Bool
 takes_gate action.When = true
 takes_gate _ = false
+
+-- ---- versions
+-- the number that a text names its version by
+abbrev pub version_number : Version → ℕ
+version_number version.One = 1
+version_number version.Two = 2
+
+-- how many numbers give the slots of so many ranks, or their buffers: one for all, or one for each
+abbrev pub size_count : Version → ℕ → ℕ
+size_count version.One ranks = 1
+size_count version.Two ranks = ranks
 
 -- ---- numbers and outcomes
 -- the value of decimal digits

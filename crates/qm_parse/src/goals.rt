@@ -4,7 +4,7 @@ ghost use Rattle.qm_parse.specs.Verdicts.{is_fixed, verdict_if, stay_unless, num
 
 use crate::looks::Look;
 use crate::tree::What;
-use crate::words::{Keyword, Mark};
+use crate::words::{Keyword, Mark, NEWEST, Version};
 use qm_limits::{LARGEST_VALUE, MOST_OPEN, MOST_RANKS};
 
 /// A token that stands alone.
@@ -27,8 +27,12 @@ pub(crate) enum Goal {
     Fixed(Fixed),
     /// A number from `least` up to, and without, `end`; it gets a node where it is `written`.
     Number { least: u32, end: u32, written: bool },
-    /// The number of ranks, and all that follows it.
-    Ranks,
+    /// The number of the version, and all that follows it.
+    Version,
+    /// The number of ranks in a text of a version, and all that follows it.
+    Ranks { version: Version },
+    /// So many numbers from 1 up to, and without, `end`, each with a node.
+    Numbers { left: u32, end: u32 },
     /// The block of all ranks, or one for each of so many.
     Blocks { ranks: u32 },
     /// The blocks of the ranks from `next` on.
@@ -243,7 +247,8 @@ pub(crate) fn verdict_of(goal: Goal, look: Look, depth: u32) -> Verdict
     match goal {
         Goal::Fixed(fixed) => verdict_if(is_fixed(fixed, look)),
         Goal::Number { least, end, .. } => number_verdict(look, least, end),
-        Goal::Ranks => number_verdict(look, 1, u32::from(MOST_RANKS) + 1),
+        Goal::Version => number_verdict(look, 1, NEWEST + 1),
+        Goal::Ranks { .. } => number_verdict(look, 1, u32::from(MOST_RANKS) + 1),
         Goal::Blocks { .. } => stay_unless(is_all(look)),
         Goal::Each { next, ranks } if next < ranks => verdict_if(is_rank(look)),
         Goal::Tapes { .. } => stay_unless(is_tape(look)),
@@ -255,8 +260,11 @@ pub(crate) fn verdict_of(goal: Goal, look: Look, depth: u32) -> Verdict
         Goal::Prim => prim_verdict(look, depth),
         Goal::Muls => stay_unless(mul_op(look).is_some()),
         Goal::Adds => stay_unless(add_op(look).is_some()),
-        Goal::Each { .. } | Goal::Operands { .. } | Goal::Leaf { .. } | Goal::Close { .. } =>
-            Verdict::Stay,
+        Goal::Numbers { .. }
+        | Goal::Each { .. }
+        | Goal::Operands { .. }
+        | Goal::Leaf { .. }
+        | Goal::Close { .. } => Verdict::Stay,
     }
 }
 
@@ -331,7 +339,9 @@ pub(crate) fn leaf_of(goal: Goal, look: Look, at: u32) -> Option<(What, u32, u32
 {
     match goal {
         Goal::Leaf { what, token } => Some((what, token, 0)),
-        Goal::Number { written: true, .. } | Goal::Ranks => leaf_at(at, number_leaf(look)),
+        Goal::Number { written: true, .. } | Goal::Version | Goal::Ranks { .. } => {
+            leaf_at(at, number_leaf(look))
+        }
         Goal::Blocks { .. } if is_all(look) => Some((What::All, at, 0)),
         Goal::Each { next, ranks } if next < ranks => Some((What::Block, at, 0)),
         Goal::Tapes { .. } => leaf_at(at, tape_leaf(look)),

@@ -4,10 +4,10 @@ ghost use Rattle.qm_lex.specs.Lexing.{token_list};
 ghost use Rattle.qm_lex.specs.Spans.{LieIn};
 ghost use Rattle.std.specs.List.{list_all};
 ghost use Rattle.qm_parse.specs.Words.{reserved_of, value_of};
-ghost use Rattle.qm_parse.specs.Signs.{mark_of, word_sign, sign, sign_of};
-ghost use Rattle.qm_parse.specs.Looks.{is_outcome, is_bits, capped, look_of, looks_of, look_next};
+ghost use Rattle.qm_parse.specs.Signs.{mark_of, word_sign, sign, sign_of, version_of};
+ghost use Rattle.qm_parse.specs.Looks.{is_outcome, is_bits, capped, look_of, looks_of, look_next, version_seen};
 
-use crate::words::{Keyword, Mark, Reserved, Verb, Version, reserved_of};
+use crate::words::{Keyword, Mark, NEWEST, Reserved, Verb, Version, reserved_of};
 use qm_lex::{Token, TokenKind, Tokens};
 use qm_limits::LARGEST_VALUE;
 use std::alloc::{AllocError, Global};
@@ -123,14 +123,36 @@ fn look_of_token(version: Version, text: &[u8], token: Token) -> Look
     )
 }
 
+/// The version that a token names where a version stands: 2 by its number, and 1 by any other.
+pub(crate) fn version_seen(look: Look) -> Version
+    ensures { result ≡ version_seen look }
+{
+    match look {
+        Look::Number(number) if number == NEWEST => Version::Two,
+        _ => Version::One,
+    }
+}
+
+/// The version of a text, which its second token names.
+fn version_of(text: &[u8], tokens: &Tokens) -> Version
+    requires { LieIn text.now (token_list tokens.now) }
+    ensures { result ≡ version_of text.now (token_list tokens.now) }
+{
+    match tokens.token(1) {
+        Some(token) => version_seen(look_of_token(Version::One, text, token)),
+        None => Version::One,
+    }
+}
+
 /// The tokens of a text, in their order.
 pub(crate) fn looks_of(alloc: Global, text: &[u8], tokens: &Tokens) -> Result<Vec<Look>, AllocError>
     requires { LieIn text.now (token_list tokens.now) }
     ensures { IfOk result (λ looks. looks.items ≡ looks_of text.now (token_list tokens.now)) }
 {
+    let version = version_of(text, tokens);
     let mut looks = Vec::new(alloc);
     for token in tokens.as_slice() {
-        looks.push(look_of_token(Version::One, text, *token))?;
+        looks.push(look_of_token(version, text, *token))?;
     }
     Ok(looks)
 }

@@ -48,16 +48,7 @@ impl Reading {
         ensures { IfOk result (λ r. place_of r ≡ start_place) }
     {
         let mut goals = Goals::new(alloc);
-        goals.push_all(&[
-            Goal::Fixed(Fixed::Qmpi),
-            Goal::Number {
-                least: 1,
-                end: 2,
-                written: true,
-            },
-            Goal::Fixed(Fixed::Ranks),
-            Goal::Ranks,
-        ])?;
+        goals.push_all(&[Goal::Fixed(Fixed::Qmpi), Goal::Version])?;
         Ok(Reading {
             goals,
             nodes: Vec::new(alloc),

@@ -3,9 +3,9 @@ ghost use Rattle.std.specs.Prelude.{◌≡◌, ◌++◌, ◌∷◌, [], OnOk, Ma
 ghost use Rattle.qm_parse.specs.Moves.{ranks_goals, frame_goals, statement_goals, gate_goals, body_goals, prim_goals, muls_goals, adds_goals, expr_goals, next_goals};
 
 use crate::goals::{Fixed, Goal, add_op, is_all, is_tape, mul_op};
-use crate::looks::Look;
+use crate::looks::{Look, version_seen};
 use crate::tree::What;
-use crate::words::{Keyword, Mark};
+use crate::words::{Keyword, Mark, Version};
 use qm_limits::{MOST_HALVES, SLOTS};
 use std::alloc::{AllocError, Global};
 
@@ -74,7 +74,24 @@ impl Goals {
             (goals_left self.new ≡ frame_goals goal look base ++ goals_left self.old) }
     {
         match goal {
-            Goal::Ranks => self.push_ranks(look),
+            Goal::Version => self.push_all(&[
+                Goal::Fixed(Fixed::Ranks),
+                Goal::Ranks {
+                    version: version_seen(look),
+                },
+            ]),
+            Goal::Ranks { version } => self.push_ranks(version, look),
+            Goal::Numbers { left, end } if left > 0 => self.push_all(&[
+                Goal::Number {
+                    least: 1,
+                    end,
+                    written: true,
+                },
+                Goal::Numbers {
+                    left: left - 1,
+                    end,
+                },
+            ]),
             Goal::Blocks { .. } if is_all(look) => {
                 self.push_all(&[
                     Goal::Body,
@@ -112,22 +129,21 @@ impl Goals {
     }
 
     /// Puts what follows the number of ranks in front.
-    fn push_ranks(&mut self, look: Look) -> Result<(), AllocError>
-        ensures { OnOk result (goals_left self.new ≡ ranks_goals look ++ goals_left self.old) }
+    fn push_ranks(&mut self, version: Version, look: Look) -> Result<(), AllocError>
+        ensures { OnOk result
+            (goals_left self.new ≡ ranks_goals version look ++ goals_left self.old) }
     {
         match look {
             Look::Number(ranks) => self.push_all(&[
                 Goal::Fixed(Fixed::Qubits),
-                Goal::Number {
-                    least: 1,
+                Goal::Numbers {
+                    left: version.size_count(ranks),
                     end: u32::from(SLOTS) + 1,
-                    written: true,
                 },
                 Goal::Fixed(Fixed::Buffer),
-                Goal::Number {
-                    least: 1,
+                Goal::Numbers {
+                    left: version.size_count(ranks),
                     end: u32::from(MOST_HALVES) + 1,
-                    written: true,
                 },
                 Goal::Blocks { ranks },
                 Goal::Tapes { ranks },

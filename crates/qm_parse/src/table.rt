@@ -94,3 +94,6 @@ pub(crate) const WORDS: [Entry; 45] = [
     keyword!(b"for      ", For),
     keyword!(b"in       ", In),
 ];
+
+/// The reserved words of version 2 that mean something else there; all others are those of version 1.
+pub(crate) const NEWER: [Entry; 1] = [keyword!(b"unreduce ", Unreduce)];

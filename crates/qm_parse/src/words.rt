@@ -1,17 +1,48 @@
 //! The reserved words, and what they mean.
-ghost use Rattle.std.specs.Prelude.{◌≡◌, ◌≤◌, ◌==◌, not, length};
+ghost use Rattle.std.specs.Prelude.{◌≡◌, ◌≤◌, ◌==◌, false, not, length, IsTrue};
 ghost use Rattle.std.specs.List.{prefix_len};
 ghost use Rattle.std.specs.Str.{bytes_eq};
 ghost use Rattle.qm_parse.specs.Words.{reserved_of};
 ghost use Rattle.qm_parse.specs.Laws.{without_spaces, entry_meaning};
+ghost use Rattle.qm_parse.specs.declared.table.TheConstants.{NEWER, WORDS};
 
-use crate::table::{Entry, WORDS};
+use crate::table::{Entry, NEWER, WORDS};
 use qm_instr::OneGate;
 
+/// The number of the newest version of the text.
+pub(crate) const NEWEST: u32 = 2;
+
 /// A version of the text.
-#[derive(Clone, Copy)]
+#[derive(Clone, Copy, Debug, PartialEq, Eq)]
 pub enum Version {
+    /// All ranks have as many slots, and buffers of one size.
     One,
+    /// Each rank has its own number of slots, and its own buffer.
+    Two,
+}
+
+impl Version {
+    ghost use Rattle.qm_parse.specs.Words.{size_count, version_number};
+
+    /// The number that a text names it by.
+    pub fn number(self) -> u8
+        ensures { result ≡ version_number self }
+    {
+        match self {
+            Version::One => 1,
+            Version::Two => 2,
+        }
+    }
+
+    /// How many numbers give the slots of so many ranks, or their buffers: one for all, or one for each.
+    pub fn size_count(self, ranks: u32) -> u32
+        ensures { result ≡ size_count self ranks }
+    {
+        match self {
+            Version::One => 1,
+            Version::Two => ranks,
+        }
+    }
 }
 
 /// A word of the frame of a program, and of loops and expressions.
@@ -29,6 +60,8 @@ pub enum Keyword {
     Protocol,
     For,
     In,
+    /// The word `unreduce` of version 2, with which nothing begins.
+    Unreduce,
 }
 
 /// What an instruction or a collective does.
@@ -147,8 +180,23 @@ pub fn reserved_of(version: Version, word: &[u8]) -> Option<Reserved>
     ensures { result ≡ reserved_of version word.now }
 {
     match version {
-        Version::One => meaning(&WORDS, word),
+        Version::One => older_meaning(word),
+        Version::Two => newer_meaning(word).or(older_meaning(word)),
     }
+}
+
+/// What a word means in version 1.
+fn older_meaning(word: &[u8]) -> Option<Reserved>
+    ensures { result ≡ entry_meaning WORDS word.now }
+{
+    meaning(&WORDS, word)
+}
+
+/// What a word means in version 2, where it means something else there.
+fn newer_meaning(word: &[u8]) -> Option<Reserved>
+    ensures { result ≡ entry_meaning NEWER word.now }
+{
+    meaning(&NEWER, word)
 }
 
 /// What a word means by these entries.
@@ -165,7 +213,14 @@ fn meaning(entries: &[Entry], word: &[u8]) -> Option<Reserved>
 fn is_for(entry: &Entry, word: &[u8]) -> bool
     ensures { result ≡ bytes_eq word.now (without_spaces entry.now.word) }
 {
-    word == &entry.word[..filled_len(&entry.word)]
+    !begins_otherwise(word, &entry.word) && word == &entry.word[..filled_len(&entry.word)]
+}
+
+/// Whether bytes begin with another one than a filled word.
+fn begins_otherwise(bytes: &[u8], word: &[u8]) -> bool
+    ensures { IsTrue result → bytes_eq bytes.now (without_spaces word.now) ≡ false }
+{
+    !bytes.is_empty() && !word.is_empty() && bytes[0] != word[0]
 }
 
 /// How many bytes are before the first space.

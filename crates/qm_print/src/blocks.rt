@@ -12,7 +12,7 @@ use crate::page::{Page, Piece};
 use qm_check::Ready;
 use qm_instr::{Input, event_count};
 use qm_io::{Failed, Sink};
-use qm_proto::{Event, next_event};
+use qm_proto::{Event, has_event_after, next_event};
 
 /// Where a rank stands: the number of its next instruction, and how many events of that it has had.
 #[derive(Clone, Copy)]
@@ -35,7 +35,7 @@ fn pass(input: &Input, rank: u16, place: &mut Place) -> Event
     let Some(event) = next_event(instr, place.stage) else {
         unreachable!();
     };
-    if place.stage + 1 < event_count(instr) {
+    if has_event_after(place.stage, event_count(instr)) {
         place.stage += 1;
     } else {
         *place = Place {

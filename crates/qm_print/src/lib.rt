@@ -91,7 +91,7 @@ pub enum FaultLine {
     Stopped { rank: u32, turns: u64, cause: Cause },
     /// Ranks have instructions left; the number has the bit of each.
     Waits { ranks: u16 },
-    /// A circuit's width is above [`qm_limits::MOST_CAPACITY_1`].
+    /// A circuit's width is above [`qm_limits::MOST_CAPACITY_1`] in version 1, above [`qm_limits::MOST_CAPACITY`] in version 2.
     Wide { width: u32 },
     /// The letter of this number, from 0, leaves the range.
     LetterOverflow { at: u32 },

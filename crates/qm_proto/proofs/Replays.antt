@@ -1,6 +1,7 @@
 -- A schedule with one entry more, and what holds after each legal schedule
-use Rattle.std.proofs.Common.{◌≡◌, ℕ, ◌+◌, List, [], ◌∷◌, ◌++◌, length, fold, refl, sym, ap, subst, ◌∙◌, arith}
+use Rattle.std.proofs.Common.{◌≡◌, ℕ, zero, suc, ◌+◌, ◌<◌, List, [], ◌∷◌, ◌++◌, length, fold, Some, slice_get, refl, sym, ap, subst, ◌∙◌, arith}
 use Rattle.std.proofs.lemmas.List.Sums.{fold_push}
+use Rattle.std.proofs.lemmas.Option.{same_Some}
 use Rattle.qm_instr.specs.Programs.{Programs}
 use Rattle.qm_proto.specs.Model.State.{State}
 use Rattle.qm_proto.specs.Model.Runs.{next}
@@ -18,6 +19,16 @@ legal_from-push p s (q ∷ rs) r legal may = (legal.0, legal_from-push p (next p
 pub legal-push : (p : Programs) (rs : List ℕ) (r : ℕ) → IsLegal p rs → MayStep p (replay p rs) r → IsLegal p (rs ++ r ∷ [])
 unfolding replay IsLegal
 legal-push p rs r legal may = legal_from-push p (state_at_start p) rs r legal may
+
+-- each entry of a legal schedule is a rank that there is
+legal_from-known : (p : Programs) (s : State) (rs : List ℕ) (n r : ℕ) → IsLegalFrom p s rs → slice_get rs n ≡ Some r → r < length p.ranks
+legal_from-known p s [] n r legal entry = cc
+legal_from-known p s (q ∷ rs) zero r legal entry = subst (λ k. k < length p.ranks) (same_Some q r entry) legal.0.known
+legal_from-known p s (q ∷ rs) (suc n) r legal entry = legal_from-known p (next p s q) rs n r legal.1 entry
+
+pub legal-known : (p : Programs) (rs : List ℕ) (n r : ℕ) → IsLegal p rs → slice_get rs n ≡ Some r → r < length p.ranks
+unfolding IsLegal
+legal-known p rs n r legal entry = legal_from-known p (state_at_start p) rs n r legal entry
 
 -- what is so of a state, and stays so at each step, is so after legal steps; n counts the steps
 legal_from_counted : (p : Programs) (P : ℕ → State → Type 0)

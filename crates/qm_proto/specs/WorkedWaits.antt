@@ -86,7 +86,7 @@ pub record WorkedWaits : Type 0 where
 -- events that are refused, after these schedules, each for its cause
 pub record WorkedRefusals : Type 0 where
   -- a qubit is measured with the outcome that it has, and with the other one
-  pub impossible : (v : Bool) → IsRefused (measured_programs v (not v)) (replay (measured_programs v (not v)) (0 ∷ 0 ∷ 0 ∷ [])) 0 cause.Impossible
+  pub impossible : (v : Bool) → let p = measured_programs v (not v) in IsRefused p (replay p (0 ∷ 0 ∷ 0 ∷ [])) 0 cause.Impossible
   pub possible : (v : Bool) → IsAllowed (measured_programs v v) (replay (measured_programs v v) (0 ∷ 0 ∷ 0 ∷ [])) 0
   pub not_zero : IsRefused not_zero_programs (replay not_zero_programs (0 ∷ 0 ∷ [])) 0 cause.NotZero
   pub not_equal : IsRefused not_equal_programs (replay not_equal_programs (0 ∷ 0 ∷ 0 ∷ 0 ∷ 1 ∷ 1 ∷ 1 ∷ [])) 1 cause.NotEqual

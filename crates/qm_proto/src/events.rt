@@ -1,5 +1,5 @@
 //! The events of each instruction, by stage.
-ghost use Rattle.std.specs.Prelude.{◌≡◌, ◌≤◌, ◌↔◌, IsNone, slice_get};
+ghost use Rattle.std.specs.Prelude.{◌≡◌, ◌+◌, ◌^◌, ◌<◌, ◌≤◌, ◌↔◌, nat_lt, IsNone, slice_get};
 ghost use Rattle.qm_instr.specs.Counts.{events_of};
 ghost use Rattle.qm_proto.specs.Events.{events_in};
 
@@ -64,4 +64,12 @@ fn at(events: &[Event], stage: u32) -> Option<Event>
     ensures { result ≡ slice_get events.now stage }
 {
     events.get(stage as usize).copied()
+}
+
+/// Whether an instruction of so many events has another after that of a stage.
+pub fn has_event_after(stage: u32, events: u32) -> bool
+    requires { stage + 1 < 2 ^ 32 }
+    ensures { result ≡ nat_lt (stage + 1) events }
+{
+    stage + 1 < events
 }

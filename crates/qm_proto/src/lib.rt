@@ -5,12 +5,21 @@
 
 mod events;
 pub mod laws;
+mod letters;
 mod worked;
 
-pub use events::next_event;
+pub use events::{has_event_after, next_event};
+pub use letters::gate_letter;
 pub use qm_denot::Parcel;
 use qm_denot::{Letter, Wire};
 use qm_instr::Lane;
+
+/// What stands for the wire of an empty slot, or of a parcel that carries none.
+pub const NO_WIRE: Wire = Wire {
+    rank: 0,
+    made: 0,
+    near: false,
+};
 
 /// One event of a run: the steps in which an instruction is done.
 #[derive(Clone, Copy, PartialEq, Eq, Debug)]

@@ -8,10 +8,10 @@ ghost use Rattle.qm_simulation.specs.Following.Simulation.{SimulationLaw};
 /// when its deciding event happens. That is the Post of a copy, a move, an undo or a reach's receiver, the Deliver of a reach's
 /// sender, and the first event of all else. The circuit that was done is the ideal one, then the gates and measurements of messages
 /// that are begun and not decided, then the corrections still due (of a move's two, the change of sign stands first). Their
-/// amplitudes are equal up to a factor of the root of two for each protocol measurement of a decided message. A rank that is in the middle of no
-/// instruction has the same next instruction, bits, slots and own outcomes left in both. No qubit is in letters of two messages,
-/// and where a qubit is in such a letter, no event of another message that can happen acts on it or reads it in a test. So the
-/// letters of a message in progress can be moved past every later letter that is not of that message.
+/// amplitudes are equal up to a factor of the root of two for each protocol measurement of a decided message. A rank that is in the
+/// middle of no instruction has the same next instruction, bits, slots and own outcomes left in both. No qubit is in letters of two
+/// messages, and where a qubit is in such a letter, no event of another message that can happen acts on it or reads it in a test.
+/// So the letters of a message in progress can be moved past every later letter that is not of that message.
 pub fn simulation_law()
     ensures { SimulationLaw }
 {}

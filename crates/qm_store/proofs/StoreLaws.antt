@@ -1,16 +1,19 @@
--- Places of different wires, numbers of shortened lists, and lists of which some number leaves the range
-use Rattle.std.proofs.Common.{◌≡◌, ◌≢◌, ℕ, zero, suc, ◌+◌, ◌*◌, ◌<◌, ◌^◌, ◌⊎◌, inl, inr, List, [], ◌∷◌, length, take, refl, sym, subst, ◌∙◌, arith}
+-- Places of different wires, lists of which some number leaves the range, and lists of the same numbers
+use Rattle.std.proofs.Common.{◌≡◌, ◌≢◌, ℕ, zero, suc, ◌+◌, ◌*◌, ◌<◌, ◌^◌, ◌⊎◌, inl, inr, List, [], ◌∷◌, cond, Contains, sym, ap, subst, ◌∙◌, arith}
 use mathlib.Core.Path.{fun_ext}
 use Rattle.std.proofs.lemmas.Bool.{cases_lt}
 use Rattle.std.proofs.lemmas.Nat.{pow-add, pow_below}
 use Rattle.std.specs.Prelude.{unsigned_abs}
 use Rattle.qm_zomega.specs.declared.Zw.{Zw}
 use Rattle.qm_zomega.specs.Numbers.{Number, zero_number}
-use Rattle.qm_zomega.specs.NumberLists.{number_at, IsListOf}
+use Rattle.qm_zomega.specs.NumberLists.{number_at}
 use Rattle.qm_zomega.specs.Range.{FitsZw}
 use Rattle.qm_denot.specs.declared.Wire.{Wire}
-use Rattle.qm_denot.specs.Places.{IsFirstAt}
-use Rattle.qm_denot.specs.LettersByPlace.{pair_at}
+use Rattle.qm_denot.specs.Places.{IsFirstAt, is_within, index_of}
+use Rattle.qm_denot.specs.Circuits.{Amplitudes, IsBlankIn}
+use Rattle.qm_denot.specs.Stores.{Store}
+use Rattle.qm_denot.specs.ListStores.{listed_value, listed_store}
+use Rattle.qm_denot.specs.Sound.{Keeps, DivisibleOver}
 
 -- ---- places
 same_first : (ws : List Wire) (p : ℕ) (v w : Wire) → IsFirstAt ws p v → IsFirstAt ws p w → v ≡ w
@@ -21,22 +24,9 @@ same_first (u ∷ ws) (suc p) v w a b = same_first ws p v w a.1 b.1
 pub places_differ : (ws : List Wire) (p q : ℕ) (v w : Wire) → IsFirstAt ws p v → IsFirstAt ws q w → v ≢ w → p ≢ q
 places_differ ws p q v w a b ne e = ne (same_first ws q v w (subst (λ n. IsFirstAt ws n v) e a) b)
 
--- ---- shortened lists
-pub number_at-take : (n : ℕ) (zs : List Zw) (i : ℕ) → i < n → number_at (take n zs) i ≡ number_at zs i
-number_at-take zero zs i h = absurd (omega arith)
-number_at-take (suc n) [] i h = refl
-number_at-take (suc n) (z ∷ zs) zero h = refl
-number_at-take (suc n) (z ∷ zs) (suc i) h = number_at-take n zs i (omega arith)
-
 -- ---- four times as many numbers, the new ones zero
 pub four_times : (n size : ℕ) → size ≡ 2 ^ n → 4 * size ≡ 2 ^ (n + 2)
 four_times n size e = let p = pow-add 2 n 2 in omega arith
-
-pub paired_from : (n : ℕ) (old grown new : List Zw) → length grown ≡ length old * 4 → ((i : ℕ) → number_at grown i ≡ number_at old i)
-    → IsListOf new (length grown) (pair_at zero_number n (number_at grown)) → IsListOf new (length old * 4) (pair_at zero_number n (number_at old))
-paired_from n old grown new size same paired =
-    let all : number_at grown ≡ number_at old = fun_ext same in
-    subst (λ m. IsListOf new m (pair_at zero_number n (number_at old))) size (subst (λ (f : ℕ → Number). IsListOf new (length grown) (pair_at zero_number n f)) all paired)
 
 -- ---- whether all numbers of a list stay in the range
 in_range_or_not : (x : ℕ) → (x < 2 ^ 127) ⊎ (x < 2 ^ 127 → ⊥)
@@ -73,3 +63,25 @@ some_unfit n g never = elim (all_or_unfit n g) [ inr some ↦ some | inl all ↦
 -- a power that fits 32 bits
 pub power_fits : (p : ℕ) → p < 32 → 2 ^ p < 2 ^ 32
 power_fits p h = pow_below p 32 h
+
+-- ---- lists of the same numbers
+same_values : (live : List Wire) (zs ys : List Zw) → ((i : ℕ) → number_at ys i ≡ number_at zs i) → listed_value live ys ≡ listed_value live zs
+same_values live zs ys same =
+    let all : number_at ys ≡ number_at zs = fun_ext same in
+    fun_ext (λ x. ap (λ (f : ℕ → Number). cond (is_within x live) (f (index_of live x)) zero_number) all)
+
+pub keeps_same : (live : List Wire) (zs ys : List Zw) (k : ℕ) → ((i : ℕ) → number_at ys i ≡ number_at zs i) → Keeps live zs k → Keeps live ys k
+keeps_same live zs ys k same kept =
+    let e : listed_value live zs ≡ listed_value live ys = sym (same_values live zs ys same) in
+    record {
+      distinct = kept.distinct;
+      blank = subst (λ (f : Amplitudes). (w : Wire) → ¬ (Contains live w) → IsBlankIn f w) e kept.blank;
+      reduced = subst (λ (f : Amplitudes). k ≢ 0 → ¬ (DivisibleOver live f)) e kept.reduced;
+    }
+
+abbrev the_store : ℕ → List Wire → ℕ → Amplitudes → Store
+the_store n live k f = record { capacity = n; live = live; exponent = k; value = f }
+
+pub store_same : (n : ℕ) (live : List Wire) (zs ys : List Zw) (k : ℕ) → ((i : ℕ) → number_at ys i ≡ number_at zs i) → listed_store n live k ys ≡ listed_store n live k zs
+store_same n live zs ys k same =
+    ap (λ (f : Amplitudes). the_store n live k f) (same_values live zs ys same)

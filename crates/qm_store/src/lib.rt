@@ -1,20 +1,24 @@
 //! A store of amplitudes in one thread, in place.
 //!
 //! It keeps the numerators of the sets of live wires in one list, of which place p of an index is the live wire at position p, so the
-//! wire that became live last has the highest place. The list is reserved once, and each letter rewrites it in place.
+//! wire that became live last has the highest place. The list is reserved once, in narrow and in wide numbers, and each letter
+//! rewrites one of the two in place: the narrow one while a bound on its components allows it, and from then on the wide one.
 #![tactic(auto)]
 
 ghost use Rattle.std.specs.Prelude.{◌≡◌, ◌≤◌, ◌^◌, length};
 ghost use Rattle.std.specs.Vec.{vec_capacity};
 ghost use Rattle.qm_limits.specs.declared.TheConstants.{MOST_CAPACITY};
 ghost use Rattle.qm_denot.specs.Sound.{Keeps, Keeps-prop};
+ghost use Rattle.qm_store.specs.Numerators.{items_of};
 
+mod branches;
 mod lists;
+mod numerators;
 
-use lists::{double, pair_list, power, take_list};
-use qm_denot::{Amps, Letter, Overflow, Wire, any_unequal, any_with, index_at, place_of};
+use lists::power;
+use numerators::Numerators;
+use qm_denot::{Amps, Letter, Overflow, Wire, index_at, place_of};
 use qm_limits::MOST_CAPACITY;
-use qm_scale::reduce;
 use qm_zomega::Zw;
 use std::alloc::{AllocError, Global};
 
@@ -26,14 +30,14 @@ use std::alloc::{AllocError, Global};
 pub struct ScaledAmps {
     capacity: u32,
     live: Vec<Wire>,
-    numerators: Vec<Zw>,
+    numerators: Numerators,
     exponent: u64,
     ghost small: { capacity ≤ MOST_CAPACITY },
     ghost few: { length live.items ≤ capacity },
     ghost live_room: { capacity ≤ vec_capacity live },
-    ghost size: { length numerators.items ≡ 2 ^ length live.items },
-    ghost room: { 2 ^ capacity ≤ vec_capacity numerators },
-    ghost kept: { Keeps live.items numerators.items exponent } by { Keeps-prop _ _ _ },
+    ghost size: { length (items_of numerators) ≡ 2 ^ length live.items },
+    ghost room: { 2 ^ capacity ≤ numerators.room },
+    ghost kept: { Keeps live.items (items_of numerators) exponent } by { Keeps-prop _ _ _ },
 }
 
 impl ScaledAmps {
@@ -50,9 +54,7 @@ impl ScaledAmps {
         ensures live { IfOk result (λ s. (⟦<ScaledAmps as Amps>⟧.store s).live ≡ []) }
         ensures capacity { IfOk result (λ s. (⟦<ScaledAmps as Amps>⟧.store s).capacity ≡ capacity) }
     {
-        let size = power(capacity);
-        let mut numerators = Vec::with_capacity(alloc, size)?;
-        let _ = numerators.push(Zw::ONE);
+        let numerators = Numerators::one(alloc, power(capacity))?;
         Ok(ScaledAmps {
             capacity,
             live: Vec::with_capacity(alloc, capacity as usize)?,
@@ -68,7 +70,7 @@ impl ScaledAmps {
             (⟦<ScaledAmps as Amps>⟧.store self.new) }
     {
         let place = place_of(&self.live, w);
-        qm_kernels::phase(&mut self.numerators, place, k);
+        self.numerators.phase(place, k);
     }
 
     /// Exchanges the branches of `w`.
@@ -78,7 +80,7 @@ impl ScaledAmps {
             (⟦<ScaledAmps as Amps>⟧.store self.new) }
     {
         let place = place_of(&self.live, w);
-        qm_kernels::flip(&mut self.numerators, place);
+        self.numerators.flip(place);
     }
 
     /// Exchanges the branches of `t` where `c` is one.
@@ -89,7 +91,7 @@ impl ScaledAmps {
     {
         let control = place_of(&self.live, c);
         let target = place_of(&self.live, t);
-        qm_kernels::cross(&mut self.numerators, control, target);
+        self.numerators.cross(control, target);
     }
 
     /// Changes the sign where both are one.
@@ -100,7 +102,7 @@ impl ScaledAmps {
     {
         let one = place_of(&self.live, c);
         let other = place_of(&self.live, t);
-        qm_kernels::sign(&mut self.numerators, one, other);
+        self.numerators.sign(one, other);
     }
 
     /// Keeps the branches where `w` is `m`; the others are zero.
@@ -110,9 +112,8 @@ impl ScaledAmps {
             (⟦<ScaledAmps as Amps>⟧.store self.new) }
     {
         let place = place_of(&self.live, w);
-        let list = self.numerators.as_mut_slice();
-        qm_kernels::keep(list, place, m);
-        reduce(list, &mut self.exponent);
+        self.numerators.keep(place, m);
+        self.numerators.reduce(&mut self.exponent);
     }
 
     /// Puts the sum and the difference of each two branches that differ in `w` alone in their stead, unless one leaves the range.
@@ -126,13 +127,9 @@ impl ScaledAmps {
             (⟦<ScaledAmps as Amps>⟧.store self.new ≡ ⟦<ScaledAmps as Amps>⟧.store self.old) }
     {
         let place = place_of(&self.live, w);
-        if !qm_kernels::had_fits(&self.numerators, place) {
+        if !self.numerators.had(place, &mut self.exponent) {
             return Err(Overflow);
         }
-        let list = self.numerators.as_mut_slice();
-        qm_kernels::had(list, place);
-        self.exponent += 1;
-        reduce(list, &mut self.exponent);
         Ok(())
     }
 
@@ -143,11 +140,11 @@ impl ScaledAmps {
             (⟦<ScaledAmps as Amps>⟧.store self.new) }
     {
         let count = self.live.len() as u32;
-        pair_list(&mut self.numerators, count);
+        self.numerators.pair(count);
         let _ = self.live.push(a);
         let _ = self.live.push(b);
         self.exponent += 1;
-        reduce(&mut self.numerators, &mut self.exponent);
+        self.numerators.reduce(&mut self.exponent);
     }
 
     /// Keeps the branches where `w` is `m`, after which it isn't live any more.
@@ -157,9 +154,9 @@ impl ScaledAmps {
             (⟦<ScaledAmps as Amps>⟧.store self.new) }
     {
         let place = place_of(&self.live, w);
-        take_list(&mut self.numerators, place, m);
+        self.numerators.take(place, m);
         let _ = self.live.remove(place as usize);
-        reduce(&mut self.numerators, &mut self.exponent);
+        self.numerators.reduce(&mut self.exponent);
     }
 
     /// Makes `b` live in the place of `a`.
@@ -176,10 +173,11 @@ impl ScaledAmps {
 impl Amps for ScaledAmps {
     ghost use Rattle.qm_denot.specs.ListStores.{listed_store};
     ghost use Rattle.qm_denot.specs.Sound.{listed_sound};
+    ghost use Rattle.qm_store.specs.Numerators.{items_of};
 
     ghost able = { Unit {0} };
 
-    ghost store = { λ s. listed_store s.capacity s.live.items s.exponent s.numerators.items };
+    ghost store = { λ s. listed_store s.capacity s.live.items s.exponent (items_of s.numerators) };
 
     fn live(&self) -> &[Wire] {
         self.live.as_slice()
@@ -191,7 +189,7 @@ impl Amps for ScaledAmps {
 
     fn fresh(&mut self, w: Wire) {
         let _ = self.live.push(w);
-        double(&mut self.numerators);
+        self.numerators.double();
     }
 
     fn apply(&mut self, letter: Letter) -> Result<(), Overflow> {
@@ -233,17 +231,17 @@ impl Amps for ScaledAmps {
     }
 
     fn can_be(&self, w: Wire, m: bool) -> bool {
-        any_with(&self.numerators, place_of(&self.live, w), m)
+        self.numerators.any_with(place_of(&self.live, w), m)
     }
 
     fn always_zero(&self, w: Wire) -> bool {
-        !any_with(&self.numerators, place_of(&self.live, w), true)
+        !self.numerators.any_with(place_of(&self.live, w), true)
     }
 
     fn always_equal(&self, w: Wire, v: Wire) -> bool {
         let one = place_of(&self.live, w);
         let other = place_of(&self.live, v);
-        !any_unequal(&self.numerators, one, other)
+        !self.numerators.any_unequal(one, other)
     }
 
     fn exponent(&self) -> u64 {
@@ -251,9 +249,9 @@ impl Amps for ScaledAmps {
     }
 
     fn value(&self, ones: &[Wire]) -> Zw {
-        self.numerators[index_at(&self.live, ones)]
+        self.numerators.number(index_at(&self.live, ones))
     }
 
-    ghost sound = { λ s. listed_sound s.capacity s.live.items s.exponent s.numerators.items
+    ghost sound = { λ s. listed_sound s.capacity s.live.items s.exponent (items_of s.numerators)
         s.few s.kept };
 }

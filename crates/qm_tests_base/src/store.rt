@@ -181,13 +181,33 @@ fn answers_of_the_scaled_store(rt: HostRuntime) -> Result<(), Fail> {
     Ok(())
 }
 
+/// So many times a Hadamard and a T on `P`: twice as many letters make its numbers about `2^(turns / 4)`.
+fn turned(alloc: Global, turns: usize) -> Result<Vec<Letter>, AllocError> {
+    let mut letters = Vec::new(alloc);
+    for _ in 0..turns {
+        letters.extend_from_slice(&[Letter::Had { w: P }, Letter::Phase { k: 1, w: P }])?;
+    }
+    Ok(letters)
+}
+
+#[test]
+fn both_stores_agree_while_numbers_leave_32_bits(rt: HostRuntime) -> Result<(), Fail> {
+    let each = each_letter(rt.alloc())?;
+    for turns in 86..130 {
+        let mut letters = turned(rt.alloc(), turns)?;
+        letters.extend_from_slice(&TEN)?;
+        for letter in &each {
+            let (_, fits) = both(&rt, rt.alloc(), &letters, *letter)?;
+            assert!(rt; fits, "{letter:?} after {turns} turns");
+        }
+    }
+    Ok(())
+}
+
 #[test]
 fn an_overflow_leaves_both_stores_as_they_were(rt: HostRuntime) -> Result<(), Fail> {
     let had = Letter::Had { w: P };
-    let mut letters = Vec::new(rt.alloc());
-    for _ in 0..507 {
-        letters.extend_from_slice(&[had, Letter::Phase { k: 1, w: P }])?;
-    }
+    let letters = turned(rt.alloc(), 507)?;
     let turn = Letter::Phase { k: 0, w: P };
     let (before, _) = both(&rt, rt.alloc(), &letters, turn)?;
     let (after, fits) = both(&rt, rt.alloc(), &letters, had)?;

@@ -4,32 +4,32 @@ use qm_denot::{Letter, Wire};
 use qm_ideal::{MonoError, mono, rendezvous};
 use std::test::Fail;
 
-/// The wire of rank 0 with this number, and the first one of rank 1.
-const W0: Wire = Wire {
+/// The first four wires of rank 0, and the first one of rank 1.
+const FIRST: Wire = Wire {
     rank: 0,
     made: 0,
     near: false,
 };
 
-const W1: Wire = Wire {
+const SECOND: Wire = Wire {
     rank: 0,
     made: 1,
     near: false,
 };
 
-const W2: Wire = Wire {
+const THIRD: Wire = Wire {
     rank: 0,
     made: 2,
     near: false,
 };
 
-const W3: Wire = Wire {
+const FOURTH: Wire = Wire {
     rank: 0,
     made: 3,
     near: false,
 };
 
-const V0: Wire = Wire {
+const OTHER: Wire = Wire {
     rank: 1,
     made: 0,
     near: false,
@@ -53,15 +53,24 @@ const LENT_TWICE: Row = Row {
         rank 0 alloc 0 h 0 copyto 0 1 1 copyto 0 1 1 undofrom 0 1 2 undofrom 0 1 2 end \
         rank 1 copyfrom 0 0 1 copyfrom 1 0 1 undoto 0 0 2 undoto 1 0 2 end protocol 0 b10 protocol 1 b11",
     letters: &[
-        Letter::Had { w: W0 },
-        Letter::Cx { c: W0, t: W1 },
-        Letter::Cx { c: W0, t: W2 },
-        Letter::Cx { c: W0, t: W1 },
-        Letter::Take { w: W1, m: false },
-        Letter::Cx { c: W0, t: W2 },
-        Letter::Take { w: W2, m: false },
+        Letter::Had { w: FIRST },
+        Letter::Cx {
+            c: FIRST,
+            t: SECOND,
+        },
+        Letter::Cx { c: FIRST, t: THIRD },
+        Letter::Cx {
+            c: FIRST,
+            t: SECOND,
+        },
+        Letter::Take {
+            w: SECOND,
+            m: false,
+        },
+        Letter::Cx { c: FIRST, t: THIRD },
+        Letter::Take { w: THIRD, m: false },
     ],
-    slots: &[(0, 0, W0)],
+    slots: &[(0, 0, FIRST)],
     bits: [0, 0],
     width: 3,
 };
@@ -72,15 +81,24 @@ const LENT_AGAIN: Row = Row {
         rank 0 alloc 0 h 0 copyto 0 1 1 undofrom 0 1 2 copyto 0 1 1 undofrom 0 1 2 end \
         rank 1 copyfrom 0 0 1 undoto 0 0 2 copyfrom 0 0 1 undoto 0 0 2 end protocol 0 b10 protocol 1 b11",
     letters: &[
-        Letter::Had { w: W0 },
-        Letter::Cx { c: W0, t: W1 },
-        Letter::Cx { c: W0, t: W1 },
-        Letter::Take { w: W1, m: false },
-        Letter::Cx { c: W0, t: W2 },
-        Letter::Cx { c: W0, t: W2 },
-        Letter::Take { w: W2, m: false },
+        Letter::Had { w: FIRST },
+        Letter::Cx {
+            c: FIRST,
+            t: SECOND,
+        },
+        Letter::Cx {
+            c: FIRST,
+            t: SECOND,
+        },
+        Letter::Take {
+            w: SECOND,
+            m: false,
+        },
+        Letter::Cx { c: FIRST, t: THIRD },
+        Letter::Cx { c: FIRST, t: THIRD },
+        Letter::Take { w: THIRD, m: false },
     ],
-    slots: &[(0, 0, W0)],
+    slots: &[(0, 0, FIRST)],
     bits: [0, 0],
     width: 2,
 };
@@ -90,14 +108,26 @@ const THREE_COPIES: Row = Row {
     text: "qmpi 1 ranks 2 qubits 1 buffer 1 rank 0 alloc 0 for i in 0..3 { copyto 0 1 1 } end \
         rank 1 for i in 0..3 { copyfrom 0 0 1 free 0 } end protocol 0 b000",
     letters: &[
-        Letter::Cx { c: W0, t: W1 },
-        Letter::Cx { c: W0, t: W2 },
-        Letter::Cx { c: W0, t: W3 },
-        Letter::Take { w: W1, m: false },
-        Letter::Take { w: W2, m: false },
-        Letter::Take { w: W3, m: false },
+        Letter::Cx {
+            c: FIRST,
+            t: SECOND,
+        },
+        Letter::Cx { c: FIRST, t: THIRD },
+        Letter::Cx {
+            c: FIRST,
+            t: FOURTH,
+        },
+        Letter::Take {
+            w: SECOND,
+            m: false,
+        },
+        Letter::Take { w: THIRD, m: false },
+        Letter::Take {
+            w: FOURTH,
+            m: false,
+        },
     ],
-    slots: &[(0, 0, W0)],
+    slots: &[(0, 0, FIRST)],
     bits: [0, 0],
     width: 4,
 };
@@ -105,8 +135,14 @@ const THREE_COPIES: Row = Row {
 /// A moved qubit takes a new name, and no more room.
 const MOVED: Row = Row {
     text: "qmpi 1 ranks 2 qubits 1 buffer 1 rank 0 alloc 0 h 0 moveto 0 1 1 end rank 1 movefrom 0 0 1 end protocol 0 b11",
-    letters: &[Letter::Had { w: W0 }, Letter::Rename { a: W0, b: W1 }],
-    slots: &[(1, 0, W1)],
+    letters: &[
+        Letter::Had { w: FIRST },
+        Letter::Rename {
+            a: FIRST,
+            b: SECOND,
+        },
+    ],
+    slots: &[(1, 0, SECOND)],
     bits: [0, 0],
     width: 1,
 };
@@ -115,8 +151,8 @@ const MOVED: Row = Row {
 const REACHED: Row = Row {
     text: "qmpi 1 ranks 2 qubits 1 buffer 1 rank 0 alloc 0 reachfrom 0 1 9 end \
         rank 1 alloc 0 h 0 reachto 0 0 9 end protocol 0 b1 protocol 1 b0",
-    letters: &[Letter::Had { w: V0 }, Letter::Cx { c: V0, t: W0 }],
-    slots: &[(0, 0, W0), (1, 0, V0)],
+    letters: &[Letter::Had { w: OTHER }, Letter::Cx { c: OTHER, t: FIRST }],
+    slots: &[(0, 0, FIRST), (1, 0, OTHER)],
     bits: [0, 0],
     width: 2,
 };
@@ -126,11 +162,11 @@ const SENT: Row = Row {
     text: "qmpi 1 ranks 2 qubits 1 buffer 1 rank 0 alloc 0 h 0 measure 0 2 sendbit 2 1 2 end \
         rank 1 recvbit 5 0 2 alloc 0 when 5 x 0 end own 0 b1",
     letters: &[
-        Letter::Had { w: W0 },
-        Letter::Keep { w: W0, m: true },
-        Letter::Flip { w: V0 },
+        Letter::Had { w: FIRST },
+        Letter::Keep { w: FIRST, m: true },
+        Letter::Flip { w: OTHER },
     ],
-    slots: &[(0, 0, W0), (1, 0, V0)],
+    slots: &[(0, 0, FIRST), (1, 0, OTHER)],
     bits: [0x4, 0x20],
     width: 2,
 };

@@ -1,4 +1,6 @@
 //! Texts and what they are read as, and the line of each first fault.
+mod sizes;
+mod words;
 
 use qm_expand::{ReadError, read};
 use qm_instr::{Gate, Input, Instr, OneGate};
@@ -52,7 +54,7 @@ fn one(g: OneGate) -> Instr {
 
 #[test]
 fn each_word_is_its_instruction(rt: HostRuntime) -> Result<(), Fail> {
-    let (q, b, to, from, tag) = (3, 31, 65_535, 400, 65_535);
+    let (q, b, to, from, tag) = (3, 31, 65_535, 400, 7);
     let cx = Gate::Cx { c: 3, t: 4 };
     let cz = Gate::Cz { c: 3, t: 4 };
     for (text, wanted) in [
@@ -73,19 +75,16 @@ fn each_word_is_its_instruction(rt: HostRuntime) -> Result<(), Fail> {
         ("xor 31 4", Instr::Xor { b, c: 4 }),
         ("when 31 cx 3 4", Instr::When { b, g: cx }),
         ("when 31 cz 3 4", Instr::When { b, g: cz }),
-        ("sendbit 31 65535 65535", Instr::SendBit { b, to, tag }),
-        ("recvbit 31 400 65535", Instr::RecvBit { b, from, tag }),
-        ("copyto 3 65535 65535", Instr::CopyTo { q, to, tag }),
-        ("copyfrom 3 400 65535", Instr::CopyFrom { q, from, tag }),
-        ("undoto 3 65535 65535", Instr::UndoTo { q, to, tag }),
-        ("undofrom 3 400 65535", Instr::UndoFrom { q, from, tag }),
-        ("moveto 3 65535 65535", Instr::MoveTo { q, to, tag }),
-        ("movefrom 3 400 65535", Instr::MoveFrom { q, from, tag }),
-        ("reachto 3 65535 65535", Instr::ReachTo { q, to, tag }),
-        (
-            "reachfrom 3 400 65535",
-            Instr::ReachFrom { t: q, from, tag },
-        ),
+        ("sendbit 31 65535 7", Instr::SendBit { b, to, tag }),
+        ("recvbit 31 400 7", Instr::RecvBit { b, from, tag }),
+        ("copyto 3 65535 7", Instr::CopyTo { q, to, tag }),
+        ("copyfrom 3 400 7", Instr::CopyFrom { q, from, tag }),
+        ("undoto 3 65535 7", Instr::UndoTo { q, to, tag }),
+        ("undofrom 3 400 7", Instr::UndoFrom { q, from, tag }),
+        ("moveto 3 65535 7", Instr::MoveTo { q, to, tag }),
+        ("movefrom 3 400 7", Instr::MoveFrom { q, from, tag }),
+        ("reachto 3 65535 7", Instr::ReachTo { q, to, tag }),
+        ("reachfrom 3 400 7", Instr::ReachFrom { t: q, from, tag }),
     ] {
         let input = programs(&rt, one_rank(&rt, text)?.as_bytes())?;
         let found = program(&rt, &input, 0)?;
@@ -419,24 +418,6 @@ fn a_million_turns_are_the_most(rt: HostRuntime) -> Result<(), Fail> {
 }
 
 #[test]
-fn sizes_and_tapes_are_read(rt: HostRuntime) -> Result<(), Fail> {
-    let text =
-        b"qmpi 01 ranks 2 qubits 9 buffer 7 # $ \xff\xfe\x80 end\nall end own 1 b01 protocol 1 b own 0 b1 own 1 b1 protocol 1 b00";
-    let input = programs(&rt, text)?;
-    assert_eq!(rt; (input.version(), input.ranks()), (1, 2));
-    for rank in 0..input.ranks() {
-        let sizes = (input.qubits(rank), input.buffer(rank), input.count(rank));
-        assert_eq!(rt; sizes, (9, 7, 0));
-    }
-    assert!(rt; input.ranks() > 1);
-    assert_eq!(rt; input.own(0), [true].as_slice());
-    assert_eq!(rt; input.own(1), [false, true, true].as_slice());
-    assert_eq!(rt; input.protocol(0).len(), 0);
-    assert_eq!(rt; input.protocol(1), [false, false].as_slice());
-    Ok(())
-}
-
-#[test]
 fn bytes_go_before_the_grammar_and_the_grammar_before_the_expansion(
     rt: HostRuntime,
 ) -> Result<(), Fail> {
@@ -444,7 +425,7 @@ fn bytes_go_before_the_grammar_and_the_grammar_before_the_expansion(
         ("qmpi 3", ReadError::Unexpected { line: 1 }),
         ("qmpi 3\n$", ReadError::BadByte { line: 2 }),
         (
-            "qmpi 2 ranks 1 qubits 1 buffer 1 all end",
+            "qmpi 3 ranks 1 qubits 1 buffer 1 all end",
             ReadError::Unexpected { line: 1 },
         ),
         ("qmpi 99999999999", ReadError::NumberTooLarge { line: 1 }),

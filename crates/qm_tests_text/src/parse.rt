@@ -1,4 +1,6 @@
-//! Texts that have a tree, and the line of each first fault; the text of the largest size.
+//! Texts that have a tree, and the line of each first fault.
+mod largest;
+
 use qm_lex::lex;
 use qm_limits::MOST_BYTES;
 use qm_parse::*;
@@ -42,7 +44,7 @@ fn fault_of(alloc: Global, text: &[u8]) -> Result<Option<ParseError>, Fail> {
 
 #[test]
 fn the_first_fault_of_a_frame_is_told(rt: HostRuntime) -> Result<(), Fail> {
-    let rows: [Row; 37] = [
+    let rows: [Row; 38] = [
         ("qmpi 1 ranks 1 qubits 1 buffer 1 all end", None),
         (
             "qmpi 01 ranks 016 qubits 16 buffer 8 all end own 15 b protocol 0 b01",
@@ -54,8 +56,9 @@ fn the_first_fault_of_a_frame_is_told(rt: HostRuntime) -> Result<(), Fail> {
         ),
         ("", unended(1)),
         ("# no token\n\n", unended(3)),
-        ("qmpi 2", unexpected(1)),
-        ("qmpi 3", unexpected(1)),
+        ("qmpi 2", unended(1)),
+        ("qmpi\n3", unexpected(2)),
+        ("qmpi 0", unexpected(1)),
         ("qmpi\n99999999999", too_large(2)),
         ("qmpi\n2147483647", unexpected(2)),
         ("qmpi\n2147483648", too_large(2)),
@@ -122,6 +125,48 @@ fn the_first_fault_of_a_frame_is_told(rt: HostRuntime) -> Result<(), Fail> {
         ("Qmpi 1", unexpected(1)),
         ("qmpi 1 rank", unexpected(1)),
         ("# one\n# two\nqmpi 1 # three\n\n ranks 2 2", unexpected(5)),
+    ];
+    for (text, fault) in rows {
+        let found = fault_of(rt.alloc(), text.as_bytes())?;
+        assert_eq!(rt; found, fault, "at {text}");
+    }
+    Ok(())
+}
+
+#[test]
+fn each_rank_of_version_2_has_its_sizes(rt: HostRuntime) -> Result<(), Fail> {
+    let rows: [Row; 19] = [
+        ("qmpi 2 ranks 1 qubits 16 buffer 8 all end", None),
+        ("qmpi 02 ranks 3 qubits 1 16 7 buffer 8 1 08 all end", None),
+        ("qmpi 2 ranks 2 qubits 1\n16 buffer 8", unended(2)),
+        ("qmpi 2 ranks 2 qubits 1\nbuffer 1 1 all end", unexpected(2)),
+        (
+            "qmpi 2 ranks 2 qubits 1 1\n1 buffer 1 1 all end",
+            unexpected(2),
+        ),
+        ("qmpi 2 ranks 2 qubits 1 1 buffer 1\nall end", unexpected(2)),
+        (
+            "qmpi 2 ranks 2 qubits 1 1 buffer 1 1\n1 all end",
+            unexpected(2),
+        ),
+        ("qmpi 2 ranks 2 qubits 1\n0", unexpected(2)),
+        ("qmpi 2 ranks 2 qubits 1\n17", unexpected(2)),
+        ("qmpi 2 ranks 2 qubits\n0 1", unexpected(2)),
+        ("qmpi 2 ranks 2 qubits 1 1 buffer 8\n0", unexpected(2)),
+        ("qmpi 2 ranks 2 qubits 1 1 buffer 8\n9", unexpected(2)),
+        ("qmpi 2 ranks 2 qubits 1\n2147483648", too_large(2)),
+        ("qmpi 2 ranks 2 qubits 1 1\n2147483648", unexpected(2)),
+        ("qmpi 2 ranks 2 qubits 1 1 buffer 1", unended(1)),
+        ("qmpi 2 ranks 17", unexpected(1)),
+        ("qmpi 1 ranks 2 qubits 1\n1 buffer 1 1", unexpected(2)),
+        (
+            "qmpi 2 ranks 2 qubits 3 3 buffer 1 1 all reduce 0 1 0 5\nunreduce 0 1 0 5 end",
+            unexpected(2),
+        ),
+        (
+            "qmpi 2 ranks 2 qubits 3 3 buffer 1 1 all for\nunreduce in 0..1 { } end",
+            unexpected(2),
+        ),
     ];
     for (text, fault) in rows {
         let found = fault_of(rt.alloc(), text.as_bytes())?;
@@ -360,6 +405,26 @@ fn nodes_follow_the_text(rt: HostRuntime) -> Result<(), Fail> {
 }
 
 #[test]
+fn each_size_of_version_2_has_its_node(rt: HostRuntime) -> Result<(), Fail> {
+    let text = b"qmpi 2 ranks 3 qubits 3 16 5 buffer 4 1 8 all end protocol 2 b1";
+    let nodes = [
+        (What::Num, 1, 2, 1),
+        (What::Num, 3, 3, 2),
+        (What::Num, 5, 3, 3),
+        (What::Num, 6, 16, 4),
+        (What::Num, 7, 5, 5),
+        (What::Num, 9, 4, 6),
+        (What::Num, 10, 1, 7),
+        (What::Num, 11, 8, 8),
+        (What::All, 12, 0, 9),
+        (What::Protocol, 14, 0, 12),
+        (What::Num, 15, 2, 11),
+        (What::Bits, 16, 0, 12),
+    ];
+    try_nodes(&rt, rt.alloc(), text, &nodes)
+}
+
+#[test]
 fn blocks_loops_and_tapes_have_their_nodes(rt: HostRuntime) -> Result<(), Fail> {
     let text = b"qmpi 1 ranks 2 qubits 1 buffer 1 \
             rank 0 for i in rank..size { when 1 x i / 1 % 2 + 0 } end rank 1 end own 0 b1 protocol 1 b";
@@ -395,53 +460,4 @@ fn blocks_loops_and_tapes_have_their_nodes(rt: HostRuntime) -> Result<(), Fail> 
         (What::Bits, 37, 0, 29),
     ];
     try_nodes(&rt, rt.alloc(), text, &nodes)
-}
-
-/// The largest text that repeats a piece behind a front.
-fn filled(alloc: Global, front: &str, piece: &str) -> Result<String, Fail> {
-    let mut text = String::new(alloc);
-    text.push_str(front)?;
-    let room = MOST_BYTES.saturating_sub(front.len());
-    for _ in 0..room.checked_div(piece.len()).unwrap_or(0) {
-        text.push_str(piece)?;
-    }
-    Ok(text)
-}
-
-#[test]
-fn the_largest_texts_have_a_tree_or_a_fault(rt: HostRuntime) -> Result<(), Fail> {
-    for (front, piece, fault) in [
-        ("", "\n", unended(1_048_577)),
-        ("", "a", unexpected(1)),
-        ("qmpi ", "9", too_large(1)),
-        ("qmpi ", "0", unexpected(1)),
-        ("", "#", unended(1)),
-        ("", "(", unexpected(1)),
-        (
-            "qmpi 1 ranks 1 qubits 1 buffer 1 all alloc 1",
-            "+1",
-            unended(1),
-        ),
-        ("qmpi 1 ranks 1 qubits 1 buffer 1 all ", "x 0 ", unended(1)),
-        (
-            "qmpi 1 ranks 1 qubits 1 buffer 1 all ",
-            "for i in 0..1{}",
-            unended(1),
-        ),
-        (
-            "qmpi 1 ranks 1 qubits 1 buffer 1 all end ",
-            "own 0 b ",
-            None,
-        ),
-        (
-            "qmpi 1 ranks 1 qubits 1 buffer 1 all end own 0 b",
-            "1",
-            None,
-        ),
-    ] {
-        let text = filled(rt.alloc(), front, piece)?;
-        let found = fault_of(rt.alloc(), text.as_bytes())?;
-        assert_eq!(rt; found, fault, "at {piece} behind {front}");
-    }
-    Ok(())
 }

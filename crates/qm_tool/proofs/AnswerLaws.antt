@@ -1,5 +1,5 @@
 -- One status and one text alone is due for words and a text
-use Rattle.std.proofs.Common.{◌≡◌, ℕ, ◌+◌, ◌<◌, ◌≤◌, ◌↔◌, Bool, true, false, IsTrue, List, Option, length, ◌⊎◌, inl, inr, refl, sym, ap, subst, ◌∙◌, arith}
+use Rattle.std.proofs.Common.{◌≡◌, ◌≢◌, ℕ, ◌+◌, ◌<◌, ◌≤◌, ◌↔◌, Bool, true, false, IsTrue, List, Option, Some, None, length, ◌⊎◌, inl, inr, refl, sym, ap, subst, ◌∙◌, arith}
 use Rattle.std.proofs.lemmas.Option.{none-some}
 use mathlib.Core.Path.{fun_ext}
 use Rattle.qm_denot.specs.declared.Wire.{Wire}
@@ -17,7 +17,7 @@ use Rattle.qm_tool.specs.declared.command.Play.{Play}
 use Rattle.qm_tool.specs.declared.command.Recipe.{Recipe}
 use Rattle.qm_print.specs.declared.FaultLine.TheVariants as line
 use Rattle.qm_tool.specs.declared.status.Status.{Status}
-use Rattle.qm_tool.specs.Commands.{block_of, kind_word, made_of, plain, text_or}
+use Rattle.qm_tool.specs.Commands.{block_of, kind_word, made_of, order_words, plain, text_or}
 use Rattle.qm_tool.specs.Dues.{IsScheduleOf, IsTurnAfter}
 use Rattle.qm_print.specs.CheckText.{check_text}
 use Rattle.qm_print.specs.FaultText.{fault_text}
@@ -26,7 +26,7 @@ use Rattle.qm_print.specs.JobText.{job_text}
 use Rattle.qm_print.specs.StateText.{line_count, state_lines, IsStateText}
 use Rattle.qm_instr.specs.Bits.{number_of_bits}
 use Rattle.qm_check.specs.Checks.{most_capacity}
-use Rattle.qm_tool.specs.Due.{IsTextAfter, IsJobText, IsOneText, RunsTo, WorksTo, RefusedWith, IsCircuitText, WaitsWith, WideWith, OverflowsWith, IsCheckText, ReadsReady, DueReady, Ends, Stops, Works, Breaks, Draws, DrawsNone, Values, ValuesNone, TooWide, Overflows, Checks, DueOf, Made, Refused, Ready, NoCommand, TooMuch, Whole, OneAnswer}
+use Rattle.qm_tool.specs.Due.{IsTextAfter, IsJobText, IsOneText, RunsTo, WorksTo, RefusedWith, IsCircuitText, WaitsWith, WideWith, OverflowsWith, IsCheckText, ReadsReady, DueReady, Ends, Stops, Works, Breaks, Draws, DrawsNone, Values, ValuesNone, TooWide, Overflows, Checks, DueOf, Made, Refused, Ready, NoCommand, TooMuch, Whole, IsSettled, OneAnswer}
 use Rattle.qm_tool.proofs.DueLemmas.{one_due, one_schedule_of, one_turn_after}
 use Rattle.qm_tool.proofs.EndLemmas.{same_circuit_text}
 use Rattle.qm_tool.proofs.OneViews.{same_width, same_letters, ends_or_early, same_left}
@@ -69,16 +69,17 @@ same_truth false true P f g = f.1 (g.0 refl)
 
 -- ---- programs without a fault have one answer
 module _ (p : Programs) (a b : List ℕ) where
-  RunsTo-one : (play : Play) (IsEnd : Programs → List ℕ → List ℕ → Type 0) → ((schedule x y : List ℕ) → IsEnd p schedule x → IsEnd p schedule y → x ≡ y) → (ok so : Bool) → RunsTo ok play IsEnd p a → RunsTo so play IsEnd p b → (ok ≡ so) × (a ≡ b)
-  RunsTo-one play IsEnd one_end ok so e f =
+  RunsTo-one : (play : Play) (IsEnd : Programs → List ℕ → List ℕ → Type 0) → ((schedule x y : List ℕ) → IsEnd p schedule x → IsEnd p schedule y → x ≡ y) → order_words play.order ≢ None → (ok so : Bool)
+      → RunsTo ok play IsEnd p a → RunsTo so play IsEnd p b → (ok ≡ so) × (a ≡ b)
+  RunsTo-one play IsEnd one_end named ok so e f =
       one_due p (IsScheduleOf p play.order) (IsTurnAfter p play.order) (IsEnd p) (λ c schedule. block_of play.listing c p schedule)
-      (one_schedule_of p play.order) (one_turn_after p play.order) one_end a b ok so e.due f.due
+      (one_schedule_of p play.order named) (one_turn_after p play.order named) one_end a b ok so e.due f.due
 
-  runs_one : (play : Play) (ok so : Bool) → RunsTo ok play IsTextAfter p a → RunsTo so play IsTextAfter p b → (ok ≡ so) × (a ≡ b)
-  runs_one play ok so e f = RunsTo-one play IsTextAfter (text_after_one p) ok so e f
+  runs_one : (play : Play) → order_words play.order ≢ None → (ok so : Bool) → RunsTo ok play IsTextAfter p a → RunsTo so play IsTextAfter p b → (ok ≡ so) × (a ≡ b)
+  runs_one play named ok so e f = RunsTo-one play IsTextAfter (text_after_one p) named ok so e f
 
   works_one : (r : Recipe) (ok so : Bool) → WorksTo ok r p a → WorksTo so r p b → (ok ≡ so) × (a ≡ b)
-  works_one r ok so e f = RunsTo-one plain (IsJobText r) (job_text_one r p) ok so e f
+  works_one r ok so e f = RunsTo-one plain (IsJobText r) (job_text_one r p) (λ none. absurd (none-some _ (sym none))) ok so e f
 
   draws_one : IsCircuitText p a → IsCircuitText p b → a ≡ b
   draws_one e f = e.whole ∙ same_circuit_text p e.circuit f.circuit e.one f.one ∙ sym f.whole
@@ -114,36 +115,36 @@ module _ (p : Programs) (a b : List ℕ) where
   ended_or_stopped : {A : Type 0} (ok so : Bool) → ok ≡ true → so ≡ false → (ok ≡ so) × (a ≡ b) → A
   ended_or_stopped ok so e f h = let same = h.0 in absurd (cc)
 
-  DueReady-one : (c : Command) (s s' : Status) → DueReady p a c s → DueReady p b c s' → (s ≡ s') × (a ≡ b)
-  DueReady-one c s s' (Ends play e) (Ends play' f) = (refl, (runs_one play true true e f).1)
-  DueReady-one c s s' (Ends play e) (Stops play' f) = ended_or_stopped true false refl refl (runs_one play true false e f)
-  DueReady-one c s s' (Stops play e) (Ends play' f) = ended_or_stopped true false refl refl (let h = runs_one play false true e f in (sym h.0, h.1))
-  DueReady-one c s s' (Stops play e) (Stops play' f) = (refl, (runs_one play false false e f).1)
-  DueReady-one c s s' (Works r e) (Works r' f) = (refl, (works_one r true true e f).1)
-  DueReady-one c s s' (Works r e) (Breaks r' f) = ended_or_stopped true false refl refl (works_one r true false e f)
-  DueReady-one c s s' (Breaks r e) (Works r' f) = ended_or_stopped true false refl refl (let h = works_one r false true e f in (sym h.0, h.1))
-  DueReady-one c s s' (Breaks r e) (Breaks r' f) = (refl, (works_one r false false e f).1)
-  DueReady-one c s s' (Draws e) (Draws f) = (refl, draws_one e f)
-  DueReady-one c s s' (Draws e) (DrawsNone f) = absurd (ends_or_early p e.circuit f.left e.one f.early)
-  DueReady-one c s s' (DrawsNone e) (Draws f) = absurd (ends_or_early p f.circuit e.left f.one e.early)
-  DueReady-one c s s' (DrawsNone e) (DrawsNone f) = (refl, waits_one e f)
-  DueReady-one c s s' (Values e) (Values f) = (refl, IsOneText-one p a b e.text f.text)
-  DueReady-one c s s' (ValuesNone e) (ValuesNone f) = (refl, waits_one e f)
-  DueReady-one c s s' (TooWide e) (TooWide f) = (refl, wide_one e f)
-  DueReady-one c s s' (Overflows e) (Overflows f) = (refl, overflows_one e f)
-  DueReady-one c s s' (Values e) (ValuesNone f) = absurd (ends_or_early p e.circuit f.left e.one f.early)
-  DueReady-one c s s' (Values e) (TooWide f) = absurd (narrow_or_wide e.circuit f.circuit e.one f.one e.narrow f.wide)
-  DueReady-one c s s' (Values e) (Overflows f) = absurd (fits_or_leaves e.circuit f.circuit f.at e.one f.one e.fits f.first)
-  DueReady-one c s s' (ValuesNone e) (Values f) = absurd (ends_or_early p f.circuit e.left f.one e.early)
-  DueReady-one c s s' (ValuesNone e) (TooWide f) = absurd (ends_or_early p f.circuit e.left f.one e.early)
-  DueReady-one c s s' (ValuesNone e) (Overflows f) = absurd (ends_or_early p f.circuit e.left f.one e.early)
-  DueReady-one c s s' (TooWide e) (Values f) = absurd (narrow_or_wide f.circuit e.circuit f.one e.one f.narrow e.wide)
-  DueReady-one c s s' (TooWide e) (ValuesNone f) = absurd (ends_or_early p e.circuit f.left e.one f.early)
-  DueReady-one c s s' (TooWide e) (Overflows f) = absurd (narrow_or_wide f.circuit e.circuit f.one e.one f.narrow e.wide)
-  DueReady-one c s s' (Overflows e) (Values f) = absurd (fits_or_leaves f.circuit e.circuit e.at f.one e.one f.fits e.first)
-  DueReady-one c s s' (Overflows e) (ValuesNone f) = absurd (ends_or_early p e.circuit f.left e.one f.early)
-  DueReady-one c s s' (Overflows e) (TooWide f) = absurd (narrow_or_wide e.circuit f.circuit e.one f.one e.narrow f.wide)
-  DueReady-one c s s' (Checks e) (Checks f) = (refl, checks_one e f)
+  DueReady-one : (c : Command) (s s' : Status) → IsSettled (Some c) s → DueReady p a c s → DueReady p b c s' → (s ≡ s') × (a ≡ b)
+  DueReady-one c s s' h (Ends play e) (Ends play' f) = (refl, (runs_one play h true true e f).1)
+  DueReady-one c s s' h (Ends play e) (Stops play' f) = ended_or_stopped true false refl refl (runs_one play h true false e f)
+  DueReady-one c s s' h (Stops play e) (Ends play' f) = ended_or_stopped true false refl refl (let k = runs_one play h false true e f in (sym k.0, k.1))
+  DueReady-one c s s' h (Stops play e) (Stops play' f) = (refl, (runs_one play h false false e f).1)
+  DueReady-one c s s' h (Works r e) (Works r' f) = (refl, (works_one r true true e f).1)
+  DueReady-one c s s' h (Works r e) (Breaks r' f) = ended_or_stopped true false refl refl (works_one r true false e f)
+  DueReady-one c s s' h (Breaks r e) (Works r' f) = ended_or_stopped true false refl refl (let k = works_one r false true e f in (sym k.0, k.1))
+  DueReady-one c s s' h (Breaks r e) (Breaks r' f) = (refl, (works_one r false false e f).1)
+  DueReady-one c s s' h (Draws e) (Draws f) = (refl, draws_one e f)
+  DueReady-one c s s' h (Draws e) (DrawsNone f) = absurd (ends_or_early p e.circuit f.left e.one f.early)
+  DueReady-one c s s' h (DrawsNone e) (Draws f) = absurd (ends_or_early p f.circuit e.left f.one e.early)
+  DueReady-one c s s' h (DrawsNone e) (DrawsNone f) = (refl, waits_one e f)
+  DueReady-one c s s' h (Values e) (Values f) = (refl, IsOneText-one p a b e.text f.text)
+  DueReady-one c s s' h (ValuesNone e) (ValuesNone f) = (refl, waits_one e f)
+  DueReady-one c s s' h (TooWide e) (TooWide f) = (refl, wide_one e f)
+  DueReady-one c s s' h (Overflows e) (Overflows f) = (refl, overflows_one e f)
+  DueReady-one c s s' h (Values e) (ValuesNone f) = absurd (ends_or_early p e.circuit f.left e.one f.early)
+  DueReady-one c s s' h (Values e) (TooWide f) = absurd (narrow_or_wide e.circuit f.circuit e.one f.one e.narrow f.wide)
+  DueReady-one c s s' h (Values e) (Overflows f) = absurd (fits_or_leaves e.circuit f.circuit f.at e.one f.one e.fits f.first)
+  DueReady-one c s s' h (ValuesNone e) (Values f) = absurd (ends_or_early p f.circuit e.left f.one e.early)
+  DueReady-one c s s' h (ValuesNone e) (TooWide f) = absurd (ends_or_early p f.circuit e.left f.one e.early)
+  DueReady-one c s s' h (ValuesNone e) (Overflows f) = absurd (ends_or_early p f.circuit e.left f.one e.early)
+  DueReady-one c s s' h (TooWide e) (Values f) = absurd (narrow_or_wide f.circuit e.circuit f.one e.one f.narrow e.wide)
+  DueReady-one c s s' h (TooWide e) (ValuesNone f) = absurd (ends_or_early p e.circuit f.left e.one f.early)
+  DueReady-one c s s' h (TooWide e) (Overflows f) = absurd (narrow_or_wide f.circuit e.circuit f.one e.one f.narrow e.wide)
+  DueReady-one c s s' h (Overflows e) (Values f) = absurd (fits_or_leaves f.circuit e.circuit e.at f.one e.one f.fits e.first)
+  DueReady-one c s s' h (Overflows e) (ValuesNone f) = absurd (ends_or_early p e.circuit f.left e.one f.early)
+  DueReady-one c s s' h (Overflows e) (TooWide f) = absurd (narrow_or_wide e.circuit f.circuit e.one f.one e.narrow f.wide)
+  DueReady-one c s s' h (Checks e) (Checks f) = (refl, checks_one e f)
 
 -- ---- a text has one answer
 -- programs are not needed where a text is only written
@@ -154,21 +155,21 @@ module _ (text a b : List ℕ) where
   refused_or_ready : {A : Type 0} (x y : List ℕ) (p : Programs) → RefusedWith text x → ReadsReady text p → A
   refused_or_ready x y p e reads = absurd (ready_or_refused text p e.fault reads e.refused)
 
-  DueOf-one : (c : Command) (s s' : Status) → DueOf text a c s → DueOf text b c s' → (s ≡ s') × (a ≡ b)
-  DueOf-one c s s' (Made r e) (Made r' f) = (refl, e ∙ sym f)
-  DueOf-one c s s' (Made r e) (Refused c' none f) = absurd (none-some r (sym none))
-  DueOf-one c s s' (Made r e) (Ready c' q p reads d) = absurd (gen_none p b r q d)
-  DueOf-one c s s' (Refused c' none e) (Made r f) = absurd (none-some r (sym none))
-  DueOf-one c s s' (Refused c' none e) (Refused c'' none' f) = (refl, e.whole ∙ ap fault_text (IsRefusedFor-one text e.fault f.fault e.refused f.refused) ∙ sym f.whole)
-  DueOf-one c s s' (Refused c' none e) (Ready c'' q p reads d) = refused_or_ready a b p e reads
-  DueOf-one c s s' (Ready c' q p reads d) (Made r f) = absurd (gen_none p a r q d)
-  DueOf-one c s s' (Ready c' q p reads d) (Refused c'' none f) = refused_or_ready b a p f reads
-  DueOf-one c s s' (Ready c' q p reads d) (Ready c'' q' p' reads' d') =
-      DueReady-one p a b c q q' d (subst (λ (x : Programs). DueReady x b c q') (ReadsReady-one text p' p reads' reads) d')
+  DueOf-one : (c : Command) (s s' : Status) → IsSettled (Some c) s → DueOf text a c s → DueOf text b c s' → (s ≡ s') × (a ≡ b)
+  DueOf-one c s s' h (Made r e) (Made r' f) = (refl, e ∙ sym f)
+  DueOf-one c s s' h (Made r e) (Refused c' none f) = absurd (none-some r (sym none))
+  DueOf-one c s s' h (Made r e) (Ready c' q p reads d) = absurd (gen_none p b r q d)
+  DueOf-one c s s' h (Refused c' none e) (Made r f) = absurd (none-some r (sym none))
+  DueOf-one c s s' h (Refused c' none e) (Refused c'' none' f) = (refl, e.whole ∙ ap fault_text (IsRefusedFor-one text e.fault f.fault e.refused f.refused) ∙ sym f.whole)
+  DueOf-one c s s' h (Refused c' none e) (Ready c'' q p reads d) = refused_or_ready a b p e reads
+  DueOf-one c s s' h (Ready c' q p reads d) (Made r f) = absurd (gen_none p a r q d)
+  DueOf-one c s s' h (Ready c' q p reads d) (Refused c'' none f) = refused_or_ready b a p f reads
+  DueOf-one c s s' h (Ready c' q p reads d) (Ready c'' q' p' reads' d') =
+      DueReady-one p a b c q q' h d (subst (λ (x : Programs). DueReady x b c q') (ReadsReady-one text p' p reads' reads) d')
 
 pub Due-one : OneAnswer
-Due-one o given s s' a b (NoCommand e) (NoCommand f) = (refl, e ∙ sym f)
-Due-one o given s s' a b (TooMuch c none long e) (TooMuch c' none' long' f) = (refl, e ∙ sym f)
-Due-one o given s s' a b (TooMuch c none long e) (Whole c' q short d) = absurd (let few = short none in omega arith)
-Due-one o given s s' a b (Whole c q short d) (TooMuch c' none long f) = absurd (let few = short none in omega arith)
-Due-one o given s s' a b (Whole c q short d) (Whole c' q' short' d') = DueOf-one (text_or (made_of c) given) a b c q q' d d'
+Due-one o given s s' a b h (NoCommand e) (NoCommand f) = (refl, e ∙ sym f)
+Due-one o given s s' a b h (TooMuch c none long e) (TooMuch c' none' long' f) = (refl, e ∙ sym f)
+Due-one o given s s' a b h (TooMuch c none long e) (Whole c' q short d) = absurd (let few = short none in omega arith)
+Due-one o given s s' a b h (Whole c q short d) (TooMuch c' none long f) = absurd (let few = short none in omega arith)
+Due-one o given s s' a b h (Whole c q short d) (Whole c' q' short' d') = DueOf-one (text_or (made_of c) given) a b c q q' h d d'

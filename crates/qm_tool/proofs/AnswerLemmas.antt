@@ -2,6 +2,7 @@
 use Rattle.std.proofs.Common.{◌≡◌, ℕ, ◌+◌, ◌≤◌, List, [], ◌++◌, length, Option, Some, None, Result, Ok, Err, refl, sym, ap, subst, ◌∙◌, codes}
 use Rattle.std.specs.Prelude.{IsErrAnd, Vec}
 use Rattle.std.specs.declared.alloc.Global.{Global}
+use Rattle.std.proofs.lemmas.Option.{none-some}
 use Rattle.std.proofs.lemmas.Result.{err_from_is_err_and}
 use mathlib.Core.Path.{fun_ext}
 use Rattle.qm_denot.specs.declared.Wire.{Wire}
@@ -130,6 +131,19 @@ module _ {A : Type 0} (store : A → Store) where
 
   pub work-answer : (p : Programs) (r : Recipe) (run : Run A) → IsRun store plain p run → MayPutRun store run → (c : Command) → c ≡ command.Job r → Fits store (λ bytes s. DueReady p bytes c s) (answer.Worked r run)
   work-answer p r run on may c is = record { may_put = may; due = subst (λ k. DueReady p (work_text store r run) k (run_status run)) (sym is) (work-ready store r p run on) }
+
+  -- for what the source gave
+  module _ (text : List ℕ) (play : Play) (from from' : SourceView) (came : CameFrom None from from' text) where
+    abbrev this : Command
+    this = command.Run play
+
+    pub run-call : (p : Programs) (run : Run A) → ReadsReady text p → IsRun store play p run → MayPutRun store run → Fits store (λ bytes s. Comes from from' bytes (Some this) s) (answer.Played run)
+    run-call p run reads on may =
+        text-call text this (Some this) from from' (Ok (answer.Played run)) refl came
+        (ready-text text this p (Ok (answer.Played run)) reads (run-answer p play run on may this refl))
+
+    pub unready-call : (x : Refusal) → IsUnready text x → AnswersCall store (Some this) from from' (Err x)
+    unready-call x u = text-call text this (Some this) from from' (Err x) refl came (unready-text text this x (λ r is. absurd (none-some r is)) u)
 
   -- ---- the one circuit
   -- ranks wait for each other

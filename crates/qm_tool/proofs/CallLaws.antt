@@ -21,7 +21,7 @@ use Rattle.qm_tool.specs.Commands.{made_of, text_or}
 use Rattle.qm_tool.specs.Due as row
 use Rattle.qm_tool.specs.Due.{OnReady, StatesOneCircuit, EndsWith, DueReady, DueOf, Due}
 use Rattle.qm_tool.specs.Lines.{HasAmplitudeLine}
-use Rattle.qm_tool.specs.Calls.{Call, call, AsksSource, CameFrom, Comes, NoCommand, Failed, More, Text, Ends, Whole, Broken, Ran, Starved, Done, Answers, Breaks, IsOfText, EndsHeld}
+use Rattle.qm_tool.specs.Calls.{Call, call, AsksSource, CameFrom, Comes, NoCommand, Failed, More, Text, Ends, Whole, Broken, Ran, Starved, Done, Answers, Breaks, IsOfText, EndsHeld, WritesDue}
 use Rattle.qm_tool.specs.Promises.{Promises}
 use Rattle.qm_print.specs.FaultText.{fault_text}
 use Rattle.qm_tool.specs.Answers.{AnswersCall, Concludes, answer_in}
@@ -179,12 +179,17 @@ module _ (from from' : SourceView) (to to' : SinkView) where
     Ran-usage (Starved c is e same) none = absurd (none-some c (sym none ∙ is))
     Ran-usage (Done due bytes comes ends) none = usage_due o due s bytes none comes ends
 
-    Ran-exact : Ran k → (given : List ℕ) (q : Status) (bytes : List ℕ) → EndsHeld k given → s ≢ status.OutOfMemory → Due given bytes o q → (s ≡ q) × Took to to' bytes
-    Ran-exact (Starved c is e same) given q bytes held memory d = absurd (memory e)
-    Ran-exact (Done due b comes ends) given q bytes held memory d =
-        let one = Due-one o given due q b bytes (Comes-due from from' given o due b held.told held.read comes) d in
+    Ran-some : Ran k → (given : List ℕ) → EndsHeld k given → s ≢ status.OutOfMemory → WritesDue k given
+    Ran-some (Starved c is e same) given held memory = absurd (memory e)
+    Ran-some (Done due b comes ends) given held memory =
         let took = Ends-took due s b held.wrote ends in
-        (took.0 ∙ one.0, subst (Took to to') one.1 took.1)
+        record { bytes = b; due = subst (Due given b o) (sym took.0) (Comes-due from from' given o due b held.told held.read comes); took = took.1 }
+
+    Ran-exact : Ran k → (given : List ℕ) (q : Status) (bytes : List ℕ) → EndsHeld k given → s ≢ status.OutOfMemory → row.IsSettled o q → Due given bytes o q → (s ≡ q) × Took to to' bytes
+    Ran-exact r given q bytes held memory settled d =
+        let came = Ran-some r given held memory in
+        let one = Due-one o given q s bytes came.bytes settled d came.due in
+        (sym one.0, subst (Took to to') (sym one.1) came.took)
 
     Ran-complete : Ran k → (play : Play) (text : List ℕ) → EndsHeld k text → o ≡ Some (command.Run play) → length text ≤ 1048576 → row.IsSure text → (s ≡ status.Ok) ⊎ (s ≡ status.OutOfMemory)
     Ran-complete (Starved c is e same) play text held run short sure = inr e
@@ -206,6 +211,7 @@ module _ (from from' : SourceView) (to to' : SinkView) where
       whole = λ asks q. whole_text k s asks (text_of_cause k s q (Ran-cause r));
       flushed = Ran-flushed r;
       no_command = Ran-usage r;
+      some = Ran-some r;
       exact = Ran-exact r;
       complete = Ran-complete r;
     }
@@ -219,3 +225,9 @@ module _ (from from' : SourceView) (to to' : SinkView) where
         by_command : (x : Option Command) → o ≡ x → Ran k
         by_command None is = let e = usage is in absurd (cc)
         by_command (Some c) is = Starved c is ends.0 ends.1
+
+    -- of a run by threads
+    pub Threads-ran : {A : Type 0} (store : A → Store) (r : Result (Answer A) Refusal) (play : Play) → o ≡ Some (command.Run play) → AnswersCall store (Some (command.Run play)) from from' r
+        → Concludes store (answer_in r) to to' s → Ran k
+    Threads-ran store r play is came ends =
+        Concludes-ran store r (λ none. absurd (none-some (command.Run play) (sym none ∙ is))) (subst (λ (x : Option Command). AnswersCall store x from from' r) (sym is) came) ends

@@ -1,5 +1,6 @@
 pub mod CommandLemmas
 pub mod WorkedWords
+pub mod WorkedOrders
 pub mod ReadingLaws
 pub mod DueLemmas
 pub mod OneViews

@@ -8,8 +8,8 @@ use Rattle.qm_gen.specs.Sizes.{IsSize}
 use Rattle.qm_tool.specs.declared.command.TheConstants.{MOST_SIZE_DIGITS, LARGEST_SIZE}
 use Rattle.qm_tool.specs.declared.command.Command.{Command}
 use Rattle.qm_tool.specs.declared.command.Command.TheVariants as command
-use Rattle.qm_tool.specs.declared.command.Order.TheVariants.{Lowest, Seeded}
-use Rattle.qm_tool.specs.declared.command.Listing.TheVariants.{Nothing, Trace}
+use Rattle.qm_tool.specs.declared.command.Order.TheVariants.{Lowest, Seeded, Any}
+use Rattle.qm_tool.specs.declared.command.Listing.TheVariants.{Nothing, Trace, Turns, TurnsOfStop}
 use Rattle.qm_tool.specs.declared.command.Recipe.{Recipe}
 use Rattle.qm_tool.specs.Commands.{command_of, four_words, has_size, kind_of, number_of, one_word, recipe, recipe_of, run, seed_of, size_of, two_words, IsMakeable, IsSized}
 use Rattle.qm_tool.proofs.CommandLemmas.{sized-has_size}
@@ -46,26 +46,30 @@ module _ (c : Command) where
   of_numbers f o fine e = option_map_some f o c e (λ x is same. subst IsMakeable same (fine x is))
 
   one_word-makeable : (w : List ℕ) → one_word w ≡ Some c → IsMakeable c
-  one_word-makeable w e = by_tests (bytes_eq w (codes "plain")) (bytes_eq w (codes "mono")) (bytes_eq w (codes "check")) e
+  one_word-makeable w e = by_tests (bytes_eq w (codes "plain")) (bytes_eq w (codes "run")) (bytes_eq w (codes "mono")) (bytes_eq w (codes "check")) e
     where
-      by_tests : (a b d : Bool)
-          → (if a then Some (run Lowest Nothing) else (if b then Some command.Mono else (if d then Some command.Check else None))) ≡ Some c
+      by_tests : (a r b d : Bool)
+          → (if a then Some (run Lowest Nothing) else (if r then Some (run Any TurnsOfStop) else (if b then Some command.Mono else (if d then Some command.Check else None)))) ≡ Some c
           → IsMakeable c
-      by_tests true b d h = is (run Lowest Nothing) tt h
-      by_tests false true d h = is command.Mono tt h
-      by_tests false false true h = is command.Check tt h
-      by_tests false false false h = absurd (none-some c h)
+      by_tests true r b d h = is (run Lowest Nothing) tt h
+      by_tests false true b d h = is (run Any TurnsOfStop) tt h
+      by_tests false false true d h = is command.Mono tt h
+      by_tests false false false true h = is command.Check tt h
+      by_tests false false false false h = absurd (none-some c h)
 
   two_words-makeable : (w k : List ℕ) → two_words w k ≡ Some c → IsMakeable c
-  two_words-makeable w k e = by_tests (bytes_eq w (codes "sched")) (bytes_eq w (codes "trace")) (bytes_eq w (codes "mono") && bytes_eq k (codes "amps")) e
+  two_words-makeable w k e =
+      by_tests (bytes_eq w (codes "sched")) (bytes_eq w (codes "trace")) (bytes_eq w (codes "run") && bytes_eq k (codes "turns")) (bytes_eq w (codes "mono") && bytes_eq k (codes "amps")) e
     where
-      by_tests : (a b d : Bool)
-          → (if a then option_map (λ n. run (Seeded n) Nothing) (seed_of k) else (if b then option_map (λ n. run (Seeded n) Trace) (seed_of k) else (if d then Some command.MonoAmps else None))) ≡ Some c
+      by_tests : (a b r d : Bool)
+          → (if a then option_map (λ n. run (Seeded n) Nothing) (seed_of k)
+          else (if b then option_map (λ n. run (Seeded n) Trace) (seed_of k) else (if r then Some (run Any Turns) else (if d then Some command.MonoAmps else None)))) ≡ Some c
           → IsMakeable c
-      by_tests true b d h = of_numbers (λ n. run (Seeded n) Nothing) (seed_of k) (λ n is. tt) h
-      by_tests false true d h = of_numbers (λ n. run (Seeded n) Trace) (seed_of k) (λ n is. tt) h
-      by_tests false false true h = is command.MonoAmps tt h
-      by_tests false false false h = absurd (none-some c h)
+      by_tests true b r d h = of_numbers (λ n. run (Seeded n) Nothing) (seed_of k) (λ n is. tt) h
+      by_tests false true r d h = of_numbers (λ n. run (Seeded n) Trace) (seed_of k) (λ n is. tt) h
+      by_tests false false true d h = is (run Any Turns) tt h
+      by_tests false false false true h = is command.MonoAmps tt h
+      by_tests false false false false h = absurd (none-some c h)
 
   four_words-makeable : (w k s n : List ℕ) → four_words w k s n ≡ Some c → IsMakeable c
   four_words-makeable w k s n e = by_tests (bytes_eq w (codes "gen")) (bytes_eq w (codes "job")) e

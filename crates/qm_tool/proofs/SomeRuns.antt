@@ -5,8 +5,9 @@ use Rattle.qm_instr.specs.Programs.{Programs, IsInRange}
 use Rattle.qm_proto.specs.declared.Cause.{Cause}
 use Rattle.qm_proto.specs.declared.Cause.TheVariants as cause
 use Rattle.qm_proto.specs.Model.Runs.{has_event, IsRefused}
-use Rattle.qm_proto.specs.Model.Schedules.{protocol_total, replay, IsLegal, AllEnded, NoneEnabled}
-use Rattle.qm_proto.specs.Model.Orders.{IsEndAround}
+use Rattle.qm_proto.specs.Model.Schedules.{protocol_total, replay, state_at_start, IsLegal, AllEnded, NoneEnabled}
+use Rattle.qm_proto.specs.Model.Orders.{Words, IsEndAround, IsFirstAround, IsOrderFrom, from_the_lowest}
+use Rattle.qm_seed.specs.Seeds.{seed_words}
 use Rattle.qm_confluence.proofs.Confluence.Confluent.{IsLeast, least}
 use Rattle.qm_instr.specs.Bits.{number_of_bits}
 use Rattle.qm_print.specs.FaultText.{stopped_line}
@@ -21,9 +22,26 @@ use Rattle.qm_tool.specs.declared.status.Status.TheVariants as status
 use Rattle.qm_tool.specs.declared.command.Recipe.{Recipe}
 use Rattle.qm_tool.specs.Commands.{block_of, kind_word, plain}
 use Rattle.qm_tool.specs.declared.command.Order.{Order}
-use Rattle.qm_tool.specs.Dues.{Refused, Stuck, order_words, IsScheduleOf, IsTurnAfter, IsDue, Completes, StopsShort}
+use Rattle.qm_tool.specs.declared.command.Order.TheVariants.{Lowest, Seeded, Any}
+use Rattle.qm_tool.specs.Dues.{Refused, Stuck, IsScheduleOf, IsTurnAfter, IsDue, Completes, StopsShort}
 use Rattle.qm_tool.specs.Due.{IsTextAfter, IsJobText, RunsTo, WorksTo, Ends, Stops, Works, Breaks}
 use Rattle.qm_tool.proofs.SomeCircuits.{HasAnswer}
+
+-- words whose run is one of the order
+abbrev some_words : Order → Words
+some_words Lowest = from_the_lowest
+some_words (Seeded seed) = seed_words seed
+some_words Any = from_the_lowest
+
+schedule_so : (p : Programs) (o : Order) (schedule : List ℕ) → IsLegal p schedule → IsOrderFrom p (state_at_start p) (some_words o) schedule → IsScheduleOf p o schedule
+schedule_so p Lowest schedule legal order = order
+schedule_so p (Seeded seed) schedule legal order = order
+schedule_so p Any schedule legal order = legal
+
+turn_so : (p : Programs) (o : Order) (schedule : List ℕ) (rank : ℕ) → IsFirstAround p (replay p schedule).tables (some_words o (length schedule) % length p.ranks) rank → IsTurnAfter p o schedule rank
+turn_so p Lowest schedule rank first = first
+turn_so p (Seeded seed) schedule rank first = first
+turn_so p Any schedule rank first = tt
 
 -- a run in an order of turns, with a state text for each schedule
 module _ (p : Programs) (o : Order) (IsEnd : List ℕ → List ℕ → Type 0) (block : Bool → List ℕ → List ℕ)
@@ -32,7 +50,7 @@ module _ (p : Programs) (o : Order) (IsEnd : List ℕ → List ℕ → Type 0) (
   SomeDue = (complete : Bool) × (bytes : List ℕ) × IsDue p (IsScheduleOf p o) (IsTurnAfter p o) IsEnd block bytes complete
 
   module _ (schedule : List ℕ) (order : IsScheduleOf p o schedule) (legal : IsLegal p schedule) where
-    stopped : (rank : ℕ) (c : Cause) → IsTurnAfter p o schedule rank → IsRefused p (replay p schedule) rank c → SomeDue
+    stopped : (rank : ℕ) (c : Cause) → IsFirstAround p (replay p schedule).tables (some_words o (length schedule) % length p.ranks) rank → IsRefused p (replay p schedule) rank c → SomeDue
     stopped rank c first refused = (
       false,
       stopped_line rank (length schedule) c ++ block false schedule,
@@ -40,7 +58,7 @@ module _ (p : Programs) (o : Order) (IsEnd : List ℕ → List ℕ → Type 0) (
         legal = legal;
         rank = rank;
         cause = c;
-        stops = Refused c first (around_known p (replay p schedule).tables (order_words o (length schedule) % length p.ranks) rank first) first.able refused;
+        stops = Refused c (turn_so p o schedule rank first) (around_known p (replay p schedule).tables (some_words o (length schedule) % length p.ranks) rank first) first.able refused;
         whole = refl;
       }),
     )
@@ -66,7 +84,7 @@ module _ (p : Programs) (o : Order) (IsEnd : List ℕ → List ℕ → Type 0) (
           Completes schedule order (record { complete = record { legal = legal; ended = ended }; end = text.0; so = text.1; whole = refl }),
         )
 
-    at_end : IsEndAround p (replay p schedule) (order_words o (length schedule) % length p.ranks) → SomeDue
+    at_end : IsEndAround p (replay p schedule) (some_words o (length schedule) % length p.ranks) → SomeDue
     at_end (inr (rank, c, first, refused)) = stopped rank c first refused
     at_end (inl none) = elim (least (has_event p (replay p schedule).tables) (length p.ranks)) [
       | inl ended ↦ complete ended
@@ -76,10 +94,10 @@ module _ (p : Programs) (o : Order) (IsEnd : List ℕ → List ℕ → Type 0) (
   pub some_due : SomeDue
   unfolding replay IsLegal
   some_due =
-      let w = order_words o in
+      let w = some_words o in
       let run = some_order p [] w tt in
       let law = legal_order p [] run.0 w tt run.1 in
-      at_end run.0 run.1 law.legal law.ended
+      at_end run.0 (schedule_so p o run.0 law.legal run.1) law.legal law.ended
 
 -- ---- a command that runs programs
 module _ (p : Programs) (in_range : IsInRange p) where

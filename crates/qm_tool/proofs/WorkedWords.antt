@@ -3,9 +3,9 @@ use Rattle.std.proofs.Common.{◌≡◌, ℕ, List, [], ◌∷◌, map, Option, 
 use Rattle.qm_gen.specs.declared.GenKind.TheVariants.{Ring, Ghz, Parity}
 use Rattle.qm_tool.specs.declared.command.Command.{Command}
 use Rattle.qm_tool.specs.declared.command.Command.TheVariants as command
-use Rattle.qm_tool.specs.declared.command.Order.TheVariants.{Lowest, Seeded}
-use Rattle.qm_tool.specs.declared.command.Listing.TheVariants.{Nothing, Trace}
-use Rattle.qm_tool.specs.Commands.{command_of, kind_of, recipe, run, seed_of, size_of}
+use Rattle.qm_tool.specs.declared.command.Order.TheVariants.{Lowest, Seeded, Any}
+use Rattle.qm_tool.specs.declared.command.Listing.TheVariants.{Nothing, Trace, Turns, TurnsOfStop}
+use Rattle.qm_tool.specs.Commands.{command_of, kind_of, plain_of, recipe, run, seed_of, size_of, threaded}
 
 -- ---- numbers
 some_numbers : map seed_of (codes "0" ∷ codes "007" ∷ codes "18446744073709551615" ∷ codes "00000000000000000010" ∷ [])
@@ -22,20 +22,29 @@ no_digits : map seed_of (codes "+1" ∷ codes "1e3" ∷ codes "1 " ∷ codes "1/
 no_digits = refl
 
 -- ---- commands on a program of the source
-one_word : map (λ w. command_of (w ∷ [])) (codes "plain" ∷ codes "mono" ∷ codes "check" ∷ codes "Plain" ∷ codes "amps" ∷ codes "run" ∷ [] ∷ [])
-    ≡ Some (run Lowest Nothing) ∷ Some command.Mono ∷ Some command.Check ∷ None ∷ None ∷ None ∷ None ∷ []
+one_word : map (λ w. command_of (w ∷ [])) (codes "plain" ∷ codes "run" ∷ codes "mono" ∷ codes "check" ∷ codes "Plain" ∷ codes "runs" ∷ codes "amps" ∷ codes "turns" ∷ [] ∷ [])
+    ≡ Some (run Lowest Nothing) ∷ Some (run Any TurnsOfStop) ∷ Some command.Mono ∷ Some command.Check ∷ None ∷ None ∷ None ∷ None ∷ None ∷ []
 one_word = refl
 
 abbrev two : List ℕ → List ℕ → Option Command
 two w k = command_of (w ∷ k ∷ [])
 
-two_words : two (codes "sched") (codes "12") ∷ two (codes "trace") (codes "12") ∷ two (codes "mono") (codes "amps") ∷ []
-    ≡ Some (run (Seeded 12) Nothing) ∷ Some (run (Seeded 12) Trace) ∷ Some command.MonoAmps ∷ []
+two_words : two (codes "sched") (codes "12") ∷ two (codes "trace") (codes "12") ∷ two (codes "run") (codes "turns") ∷ two (codes "mono") (codes "amps") ∷ []
+    ≡ Some (run (Seeded 12) Nothing) ∷ Some (run (Seeded 12) Trace) ∷ Some (run Any Turns) ∷ Some command.MonoAmps ∷ []
 two_words = refl
 
-no_two_words : two (codes "plain") (codes "12") ∷ two (codes "check") (codes "amps") ∷ two (codes "run") (codes "turns") ∷ []
-    ≡ None ∷ None ∷ None ∷ []
+no_two_words : two (codes "plain") (codes "12") ∷ two (codes "check") (codes "amps") ∷ two (codes "run") (codes "amps") ∷ two (codes "run") (codes "12") ∷ two (codes "mono") (codes "turns") ∷ []
+    ≡ None ∷ None ∷ None ∷ None ∷ None ∷ []
 no_two_words = refl
+
+-- which of them are run by threads, and what is left to a call that starts none
+by_threads : map threaded (two (codes "run") (codes "turns") ∷ two (codes "sched") (codes "12") ∷ Some command.Mono ∷ None ∷ [])
+    ≡ Some (record { order = Any; listing = Turns }) ∷ None ∷ None ∷ None ∷ []
+by_threads = refl
+
+without_threads : map plain_of (two (codes "run") (codes "turns") ∷ two (codes "sched") (codes "12") ∷ Some command.Mono ∷ None ∷ [])
+    ≡ None ∷ Some (run (Seeded 12) Nothing) ∷ Some command.Mono ∷ None ∷ []
+without_threads = refl
 
 -- ---- kinds
 kinds : map kind_of (codes "ring" ∷ codes "ghz" ∷ codes "parity" ∷ codes "star" ∷ codes "GHZ" ∷ codes "Ring" ∷ codes "rin" ∷ codes "rings" ∷ [] ∷ [])

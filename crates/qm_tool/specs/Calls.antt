@@ -8,7 +8,7 @@ use Rattle.qm_tool.specs.declared.command.Command.{Command}
 use Rattle.qm_print.specs.declared.FaultLine.TheVariants as line
 use Rattle.qm_tool.specs.Commands.{made_of, recipe_text}
 use Rattle.qm_tool.specs.declared.command.Recipe.{Recipe}
-use Rattle.qm_tool.specs.Due.{DueOf}
+use Rattle.qm_tool.specs.Due.{Due, DueOf}
 use Rattle.qm_print.specs.FaultText.{fault_text}
 
 -- what the words are, both ends before and after, and the status
@@ -88,6 +88,12 @@ IsOfText status.TooLong = ⊥
 IsOfText status.WriteFault = ⊥
 IsOfText status.OutOfMemory = ⊥
 IsOfText s = Unit {0}
+
+-- the status is due for what the words are and these bytes of the source, with bytes that the sink took
+pub record WritesDue (k : Call) (given : List ℕ) : Type 0 where
+  pub bytes : List ℕ
+  pub due : Due given bytes k.command k.status
+  pub took : Took k.to k.to' bytes
 
 -- neither end failed: the source wasn't asked, or these are the bytes that it had, and no read of them failed; and no write failed
 pub record EndsHeld (k : Call) (given : List ℕ) : Type 0 where

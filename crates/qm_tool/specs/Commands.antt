@@ -1,7 +1,8 @@
 -- The commands: the one reading of their words; the made program of those that have one; and of a run the block that is listed after it
-use Rattle.std.specs.Prelude.{ℕ, Bool, ◌+◌, ◌*◌, ◌-◌, ◌&&◌, nat_le, List, [], ◌∷◌, length, Option, Some, None, if◌then◌else◌, option_and_then, option_map, codes, IfSome}
+use Rattle.std.specs.Prelude.{ℕ, Bool, true, false, ◌+◌, ◌*◌, ◌-◌, ◌&&◌, nat_le, List, [], ◌∷◌, length, Option, Some, None, is_none, if◌then◌else◌, option_and_then, option_map, codes, IfSome}
 use Rattle.std.specs.Str.{bytes_eq}
 use Rattle.qm_instr.specs.Programs.{Programs}
+use Rattle.qm_proto.specs.Model.Orders.{Words, from_the_lowest}
 use Rattle.qm_gen.specs.declared.GenKind.{GenKind}
 use Rattle.qm_gen.specs.declared.GenKind.TheVariants.{Ring, Ghz, Parity}
 use Rattle.qm_gen.specs.declared.TheConstants.{LEAST_RING, MOST_RING, LEAST_GHZ, MOST_GHZ, LEAST_PARITY, MOST_PARITY}
@@ -12,12 +13,12 @@ use Rattle.qm_tool.specs.declared.command.TheConstants.{MOST_DIGITS, LARGEST_NUM
 use Rattle.qm_tool.specs.declared.command.Command.{Command}
 use Rattle.qm_tool.specs.declared.command.Command.TheVariants as command
 use Rattle.qm_tool.specs.declared.command.Order.{Order}
-use Rattle.qm_tool.specs.declared.command.Order.TheVariants.{Lowest, Seeded}
+use Rattle.qm_tool.specs.declared.command.Order.TheVariants.{Lowest, Seeded, Any}
 use Rattle.qm_tool.specs.declared.command.Listing.{Listing}
-use Rattle.qm_tool.specs.declared.command.Listing.TheVariants.{Nothing, Trace}
+use Rattle.qm_tool.specs.declared.command.Listing.TheVariants.{Nothing, Trace, Turns, TurnsOfStop}
 use Rattle.qm_tool.specs.declared.command.Play.{Play}
 use Rattle.qm_tool.specs.declared.command.Recipe.{Recipe}
-use Rattle.qm_print.specs.Blocks.{trace_block}
+use Rattle.qm_print.specs.Blocks.{trace_block, turns_block}
 
 -- ---- numbers
 -- the value of decimal digits that follow a value
@@ -47,14 +48,16 @@ run order listing = command.Run (record { order = order; listing = listing })
 abbrev pub one_word : List ℕ → Option Command
 one_word w =
     if bytes_eq w (codes "plain") then Some (run Lowest Nothing)
-    else (if bytes_eq w (codes "mono") then Some command.Mono else (if bytes_eq w (codes "check") then Some command.Check else None))
+    else (if bytes_eq w (codes "run") then Some (run Any TurnsOfStop)
+    else (if bytes_eq w (codes "mono") then Some command.Mono else (if bytes_eq w (codes "check") then Some command.Check else None)))
 
 -- the command that two words are
 abbrev pub two_words : List ℕ → List ℕ → Option Command
 two_words w k =
     if bytes_eq w (codes "sched") then option_map (λ n. run (Seeded n) Nothing) (seed_of k)
     else (if bytes_eq w (codes "trace") then option_map (λ n. run (Seeded n) Trace) (seed_of k)
-    else (if bytes_eq w (codes "mono") && bytes_eq k (codes "amps") then Some command.MonoAmps else None))
+    else (if bytes_eq w (codes "run") && bytes_eq k (codes "turns") then Some (run Any Turns)
+    else (if bytes_eq w (codes "mono") && bytes_eq k (codes "amps") then Some command.MonoAmps else None)))
 
 -- the kind that a word is
 abbrev pub kind_of : List ℕ → Option GenKind
@@ -144,3 +147,26 @@ plain = record { order = Lowest; listing = Nothing }
 abbrev pub block_of : Listing → Bool → Programs → List ℕ → List ℕ
 block_of Nothing complete p schedule = []
 block_of Trace complete p schedule = trace_block p schedule
+block_of Turns complete p schedule = turns_block schedule
+block_of TurnsOfStop true p schedule = []
+block_of TurnsOfStop false p schedule = turns_block schedule
+
+-- ---- orders
+-- the words by which the ranks take their turns; none where any rank may have each turn
+abbrev pub order_words : Order → Option Words
+order_words Lowest = Some from_the_lowest
+order_words (Seeded seed) = Some (seed_words seed)
+order_words Any = None
+
+-- how a command runs its program, where any rank may have each turn; none for every other command
+abbrev pub threads_of : Command → Option Play
+threads_of (command.Run play) = if is_none (order_words play.order) then Some play else None
+threads_of c = None
+
+-- the same of what words are
+abbrev pub threaded : Option Command → Option Play
+threaded o = option_and_then threads_of o
+
+-- what words are to a call that starts no threads
+abbrev pub plain_of : Option Command → Option Command
+plain_of o = if is_none (threaded o) then o else None

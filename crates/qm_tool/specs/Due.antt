@@ -1,5 +1,5 @@
 -- The status and the bytes that are due of a command, by the text of its program, while no end fails
-use Rattle.std.specs.Prelude.{◌≡◌, ℕ, ◌<◌, ◌≤◌, ◌⊎◌, ◌↔◌, Bool, true, false, IsTrue, List, ◌++◌, Option, Some, None, Ok, Err, length}
+use Rattle.std.specs.Prelude.{◌≡◌, ◌≢◌, ℕ, ◌<◌, ◌≤◌, ◌⊎◌, ◌↔◌, Bool, true, false, IsTrue, List, ◌++◌, Option, Some, None, Ok, Err, length}
 use Rattle.qm_denot.specs.Circuits.{Amplitudes}
 use Rattle.qm_denot.specs.Stores.{IsReducedForm}
 use Rattle.qm_instr.specs.Programs.{Programs, IsInRange}
@@ -23,7 +23,7 @@ use Rattle.qm_print.specs.declared.FaultLine.{FaultLine}
 use Rattle.qm_print.specs.declared.FaultLine.TheVariants as line
 use Rattle.qm_tool.specs.declared.status.Status.{Status}
 use Rattle.qm_tool.specs.declared.status.Status.TheVariants as status
-use Rattle.qm_tool.specs.Commands.{block_of, command_of, kind_word, made_of, plain, text_or}
+use Rattle.qm_tool.specs.Commands.{block_of, command_of, kind_word, made_of, order_words, plain, text_or}
 use Rattle.qm_tool.specs.Dues.{IsScheduleOf, IsTurnAfter, IsDue}
 use Rattle.qm_print.specs.CheckText.{check_text}
 use Rattle.qm_print.specs.CircuitText.{circuit_text}
@@ -207,10 +207,17 @@ pub record IsSure (text : List ℕ) : Type 0 where
   pub never_stuck : NeverStuck programs ⊎ RendezvousEnds programs
 
 -- ---- laws
--- one status and one text alone is due
+-- the words and the text alone settle what is due, if this status is: the command runs nothing, or in an order that its words name, or
+-- the status is none with which a run comes to its end
+abbrev pub IsSettled : Option Command → Status → Type 0
+IsSettled (Some (command.Run play)) status.Ok = order_words play.order ≢ None
+IsSettled (Some (command.Run play)) status.Stopped = order_words play.order ≢ None
+IsSettled o s = Unit {0}
+
+-- where they settle it, one status and one text alone is due
 abbrev pub OneAnswer : Type 0
 OneAnswer = (o : Option Command) (given : List ℕ) (s s' : Status) (bytes bytes' : List ℕ)
-    → Due given bytes o s → Due given bytes' o s' → (s ≡ s') × (bytes ≡ bytes')
+    → IsSettled o s → Due given bytes o s → Due given bytes' o s' → (s ≡ s') × (bytes ≡ bytes')
 
 -- a status and a text are due for all words and all bytes that a source may have
 abbrev pub SomeAnswer : Type 0

@@ -1,19 +1,18 @@
 -- The text that is due where a run follows a schedule: the state text where it is complete, and the line of where and why it stops; then a
 -- block, which is empty where a command lists nothing
-use Rattle.std.specs.Prelude.{◌≡◌, ℕ, ◌%◌, ◌<◌, ◌⊎◌, Bool, true, false, List, ◌++◌, Some, length}
+use Rattle.std.specs.Prelude.{◌≡◌, ℕ, ◌%◌, ◌<◌, ◌⊎◌, Bool, true, false, List, ◌++◌, Option, None, Some, length}
 use Rattle.qm_instr.specs.Programs.{Programs}
 use Rattle.qm_proto.specs.declared.Cause.{Cause}
 use Rattle.qm_proto.specs.declared.Cause.TheVariants as cause
 use Rattle.qm_proto.specs.Model.State.{State}
 use Rattle.qm_proto.specs.Model.Runs.{enabled, IsRefused}
 use Rattle.qm_proto.specs.Model.Schedules.{state_at_start, replay, IsLegal, IsComplete, IsStuck, IsLowestLeft}
-use Rattle.qm_proto.specs.Model.Orders.{Words, IsOrderFrom, IsFirstAround, from_the_lowest}
+use Rattle.qm_proto.specs.Model.Orders.{Words, IsOrderFrom, IsFirstAround}
 use Rattle.qm_machine.specs.declared.Halt.{Halt}
 use Rattle.qm_machine.specs.Keeps.{MachineView, HasEnded, state_of}
-use Rattle.qm_seed.specs.Seeds.{seed_words}
 use Rattle.qm_print.specs.FaultText.{stopped_line}
 use Rattle.qm_tool.specs.declared.command.Order.{Order}
-use Rattle.qm_tool.specs.declared.command.Order.TheVariants.{Lowest, Seeded}
+use Rattle.qm_tool.specs.Commands.{order_words}
 
 -- ---- the due text of a schedule, whatever schedule it is
 
@@ -51,18 +50,23 @@ pub data IsDue
 
 -- ---- the orders of the commands
 
--- the words by which the ranks take their turns
-abbrev pub order_words : Order → Words
-order_words Lowest = from_the_lowest
-order_words (Seeded seed) = seed_words seed
+-- the schedule is that of the words, to its end; where there are none, any legal one may be it
+abbrev pub IsScheduleBy : Programs → Option Words → List ℕ → Type 0
+IsScheduleBy p (Some w) schedule = IsOrderFrom p (state_at_start p) w schedule
+IsScheduleBy p None schedule = IsLegal p schedule
 
--- the schedule is that of the order, to its end
+-- the rank has the next turn after the schedule, by the words; where there are none, any rank may have it
+abbrev pub IsTurnBy : Programs → Option Words → List ℕ → ℕ → Type 0
+IsTurnBy p (Some w) schedule rank = IsFirstAround p (replay p schedule).tables (w (length schedule) % length p.ranks) rank
+IsTurnBy p None schedule rank = Unit {0}
+
+-- the schedule may be that of the order, to its end
 abbrev pub IsScheduleOf : Programs → Order → List ℕ → Type 0
-IsScheduleOf p o schedule = IsOrderFrom p (state_at_start p) (order_words o) schedule
+IsScheduleOf p o schedule = IsScheduleBy p (order_words o) schedule
 
--- the rank has the next turn after the schedule
+-- the rank may have the next turn after the schedule
 abbrev pub IsTurnAfter : Programs → Order → List ℕ → ℕ → Type 0
-IsTurnAfter p o schedule rank = IsFirstAround p (replay p schedule).tables (order_words o (length schedule) % length p.ranks) rank
+IsTurnAfter p o schedule rank = IsTurnBy p (order_words o) schedule rank
 
 -- ---- a machine that was played in this order from its start
 
@@ -71,7 +75,7 @@ pub record HaltStops {A : Type 0} (o : Order) (m : MachineView A) (h : Halt) : T
   pub turns : h.turns ≡ length m.schedule
   pub stops : Stops m.programs (state_of m) (IsTurnAfter m.programs o m.schedule) h.rank h.cause
 
--- its schedule is that of the order; no rank has an event left, or it is halted where the run stops
+-- its schedule is one of the order; no rank has an event left, or it is halted where the run stops
 pub record HasPlayed {A : Type 0} (o : Order) (m : MachineView A) : Type 0 where
   pub schedule : IsScheduleOf m.programs o m.schedule
   pub legal : IsLegal m.programs m.schedule

@@ -9,9 +9,9 @@ use Rattle.qm_tool.specs.declared.command.Command.TheVariants as command
 use Rattle.qm_tool.specs.declared.command.Play.{Play}
 use Rattle.qm_tool.specs.declared.status.Status.{Status}
 use Rattle.qm_tool.specs.declared.status.Status.TheVariants as status
-use Rattle.qm_tool.specs.Due.{OnReady, StatesOneCircuit, DueOf, Due, IsSure}
+use Rattle.qm_tool.specs.Due.{OnReady, StatesOneCircuit, DueOf, Due, IsSettled, IsSure}
 use Rattle.qm_tool.specs.Lines.{HasAmplitudeLine}
-use Rattle.qm_tool.specs.Calls.{Call, AsksSource, Ends, Ran, Answers, Breaks, IsOfText, EndsHeld}
+use Rattle.qm_tool.specs.Calls.{Call, AsksSource, Ends, Ran, Answers, Breaks, IsOfText, EndsHeld, WritesDue}
 
 pub record Promises (k : Call) : Type 0 where
   -- what was due, and what became of it
@@ -40,7 +40,9 @@ pub record Promises (k : Call) : Type 0 where
   pub flushed : k.status ≢ status.WriteFault → k.to'.faults ≡ k.to.faults
   -- ---- each cause has its status, where no end fails and memory doesn't run out
   pub no_command : k.command ≡ None → Ends status.Usage (fault_text line.Usage) k.to k.to' k.status
-  pub exact : (given : List ℕ) (s : Status) (bytes : List ℕ) → EndsHeld k given → k.status ≢ status.OutOfMemory
+  -- what came is due; and what is due came, where it is settled
+  pub some : (given : List ℕ) → EndsHeld k given → k.status ≢ status.OutOfMemory → WritesDue k given
+  pub exact : (given : List ℕ) (s : Status) (bytes : List ℕ) → EndsHeld k given → k.status ≢ status.OutOfMemory → IsSettled k.command s
       → Due given bytes k.command s → (k.status ≡ s) × Took k.to k.to' bytes
   -- a text whose programs can come to no refused event and to no stuck state is run to its end
   pub complete : (play : Play) (text : List ℕ) → EndsHeld k text → k.command ≡ Some (command.Run play) → length text ≤ MOST_BYTES

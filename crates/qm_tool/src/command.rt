@@ -1,8 +1,8 @@
 //! The commands, and the one reading of their words.
-ghost use Rattle.std.specs.Prelude.{◌≡◌, ◌≤◌, map, IfSome};
+ghost use Rattle.std.specs.Prelude.{◌≡◌, ◌≤◌, map, None, Some, IfSome};
 ghost use Rattle.std.specs.String.{string_bytes};
 ghost use Rattle.qm_gen.specs.Sizes.{IsSize};
-ghost use Rattle.qm_tool.specs.Commands.{command_of, four_words, kind_of, number_of, one_word, recipe_of, seed_of, size_of, two_words, IsMakeable, IsSized, made_of};
+ghost use Rattle.qm_tool.specs.Commands.{command_of, four_words, kind_of, number_of, one_word, plain_of, recipe_of, seed_of, size_of, threaded, threads_of, two_words, IsMakeable, IsSized, made_of};
 
 use qm_gen::GenKind;
 
@@ -13,6 +13,8 @@ pub enum Order {
     Lowest,
     /// The one that a seed chooses.
     Seeded { seed: u64 },
+    /// Any, as the threads of the ranks come.
+    Any,
 }
 
 /// What is listed after a run.
@@ -21,6 +23,10 @@ pub enum Listing {
     Nothing,
     /// The events of its turns.
     Trace,
+    /// The ranks of its turns.
+    Turns,
+    /// The ranks of its turns, where it stops.
+    TurnsOfStop,
 }
 
 /// How a program is run.
@@ -73,6 +79,19 @@ impl Command {
             _ => None,
         }
     }
+
+    /// How it runs its program, where each rank has a thread of its own. `None` for every other command.
+    pub fn threads(self) -> Option<Play>
+        ensures { result ≡ threads_of self }
+    {
+        match self {
+            Command::Run { play } => match play.order {
+                Order::Any => Some(play),
+                Order::Lowest | Order::Seeded { .. } => None,
+            },
+            _ => None,
+        }
+    }
 }
 
 /// How many digits a seed may have, and the number that a program is made from.
@@ -122,6 +141,12 @@ fn one_word(word: &String) -> Option<Command>
 {
     if word.as_str() == "plain" {
         Some(Command::Run { play: PLAIN })
+    } else if word.as_str() == "run" {
+        let play = Play {
+            order: Order::Any,
+            listing: Listing::TurnsOfStop,
+        };
+        Some(Command::Run { play })
     } else if word.as_str() == "mono" {
         Some(Command::Mono)
     } else if word.as_str() == "check" {
@@ -148,6 +173,12 @@ fn two_words(name: &String, word: &String) -> Option<Command>
         let play = Play {
             order: Order::Seeded { seed },
             listing: Listing::Trace,
+        };
+        Some(Command::Run { play })
+    } else if name.as_str() == "run" && word.as_str() == "turns" {
+        let play = Play {
+            order: Order::Any,
+            listing: Listing::Turns,
         };
         Some(Command::Run { play })
     } else if name.as_str() == "mono" && word.as_str() == "amps" {
@@ -215,8 +246,8 @@ fn four_words(name: &String, kind: &String, size: &String, number: &String) -> O
     }
 }
 
-/// The command that words are, matched exactly. `None` where they are none of the forms `plain`, `sched K`, `trace K`, `mono`, `mono amps`,
-/// `check`, `gen KIND SIZE NUMBER` and `job KIND SIZE NUMBER`.
+/// The command that words are, matched exactly. `None` where they are none of the forms `plain`, `sched K`, `trace K`, `run`, `run turns`,
+/// `mono`, `mono amps`, `check`, `gen KIND SIZE NUMBER` and `job KIND SIZE NUMBER`.
 pub fn command_of(words: &[String]) -> Option<Command>
     ensures command { result ≡ command_of (map string_bytes words.now) }
     ensures makeable { IfSome result IsMakeable }
@@ -226,5 +257,25 @@ pub fn command_of(words: &[String]) -> Option<Command>
         [name, word] => two_words(name, word),
         [name, kind, size, number] => four_words(name, kind, size, number),
         _ => None,
+    }
+}
+
+/// How words ask for a run in which each rank has a thread of its own. `None` where they ask for anything else, or for nothing.
+pub(crate) fn threads_of(words: &[String]) -> Option<Play>
+    ensures { result ≡ threaded (command_of (map string_bytes words.now)) }
+{
+    command_of(words)?.threads()
+}
+
+/// The command that words are to a call that starts no threads. `None` also where they ask for threads.
+pub(crate) fn plain_of(words: &[String]) -> Option<Command>
+    ensures command { result ≡ plain_of (command_of (map string_bytes words.now)) }
+    ensures makeable { IfSome result IsMakeable }
+    ensures plain { IfSome result (λ c. threads_of c ≡ None) }
+{
+    let command = command_of(words)?;
+    match command.threads() {
+        Some(_) => None,
+        None => Some(command),
     }
 }

@@ -1,12 +1,10 @@
 //! Commands that run a program: a machine is played, and what it comes to is written.
-ghost use Rattle.std.specs.Prelude.{◌≡◌, ◌≤◌, [], None, Ok, IfOk, is_none};
-ghost use Rattle.qm_denot.specs.Stores.{StandsFor};
-ghost use Rattle.qm_check.specs.Checks.{capacity_of};
-ghost use Rattle.qm_expand.specs.Reading.{Reads};
+ghost use Rattle.std.specs.Prelude.{◌≡◌, ◌≢◌, [], None, IfOk, is_none};
 ghost use Rattle.qm_io.specs.Ends.{Puts};
 ghost use Rattle.qm_machine.specs.Keeps.{Keeps};
 ghost use Rattle.qm_print.specs.FaultText.{stopped_line};
-ghost use Rattle.qm_tool.specs.Commands.{block_of};
+ghost use Rattle.qm_tool.specs.Commands.{block_of, order_words};
+ghost use Rattle.qm_tool.specs.Due.{ReadsReady};
 ghost use Rattle.qm_tool.specs.Dues.{HasPlayed};
 ghost use Rattle.qm_tool.specs.Running.{IsRun, MayPutRun, end_text, job_numbers, run_status, run_text};
 
@@ -17,8 +15,11 @@ use qm_check::Ready;
 use qm_denot::Amps;
 use qm_io::{Failed, Sink};
 use qm_machine::{Halt, Machine, State};
-use qm_print::{FaultLine, Head, JobNumbers, Live, count_lines, put_fault, put_state, put_trace};
+use qm_print::{
+    FaultLine, Head, JobNumbers, Live, count_lines, put_fault, put_state, put_trace, put_turns,
+};
 use qm_ranks::{play_order, play_seed};
+use qm_store::ScaledAmps;
 use std::alloc::{AllocError, Global};
 
 /// A machine that was played, and what its text says of it.
@@ -33,27 +34,6 @@ pub(crate) struct Run<A: Amps> {
 }
 
 impl<A: Amps> Run<A> {
-    /// Runs the programs of a text over a store that stands for the empty circuit. `AllocError` comes from the allocator alone.
-    pub(crate) fn start(
-        alloc: Global,
-        play: Play,
-        text: Vec<u8>,
-        ready: Ready,
-        amps: A,
-    ) -> Result<Run<A>, AllocError>
-        requires able { A.able }
-        requires read { Reads text.items (Ok ready) }
-        requires stands { StandsFor (A.store amps) [] }
-        requires live { (A.store amps).live ≡ [] }
-        requires room { capacity_of ready ≤ (A.store amps).capacity }
-        ensures run { IfOk result (IsRun A.store play ready) }
-        ensures may_put { IfOk result (MayPutRun A.store) }
-    {
-        let mut machine = Machine::start(alloc, text, ready, amps)?;
-        play_as(&mut machine, play.order);
-        Run::of(alloc, play, machine)
-    }
-
     /// What the text of a machine says that was played to its end. `AllocError` comes from the allocator alone.
     pub(crate) fn of(alloc: Global, play: Play, machine: Machine<A>) -> Result<Run<A>, AllocError>
         requires { HasPlayed play.order machine }
@@ -105,9 +85,42 @@ impl<A: Amps> Run<A> {
     }
 }
 
+/// The machine of the programs of a text before its first event, over a store in one list. `AllocError` comes from the allocator alone.
+pub(crate) fn machine_of(
+    alloc: Global,
+    text: Vec<u8>,
+    ready: Ready,
+) -> Result<Machine<ScaledAmps>, AllocError>
+    requires { ReadsReady text.items ready }
+    ensures programs { IfOk result (λ m. m.programs ≡ ready) }
+    ensures start { IfOk result (λ m. m.schedule ≡ []) }
+    ensures running { IfOk result (λ m. m.halted ≡ None) }
+{
+    let amps = ScaledAmps::start(alloc, ready.capacity())?;
+    Machine::start(alloc, text, ready, amps)
+}
+
+/// A run of the programs of a text in an order that needs no threads. `AllocError` comes from the allocator alone.
+pub(crate) fn run_alone(
+    alloc: Global,
+    play: Play,
+    text: Vec<u8>,
+    ready: Ready,
+) -> Result<Run<ScaledAmps>, AllocError>
+    requires named { order_words play.order ≢ None }
+    requires ready { ReadsReady text.items ready }
+    ensures run { IfOk result (IsRun (⟦<ScaledAmps as Amps>⟧.store) play ready) }
+    ensures may_put { IfOk result (MayPutRun (⟦<ScaledAmps as Amps>⟧.store)) }
+{
+    let mut machine = machine_of(alloc, text, ready)?;
+    play_as(&mut machine, play.order);
+    Run::of(alloc, play, machine)
+}
+
 /// Plays a machine from its start, until no rank has an event left or the machine is halted.
 fn play_as<A: Amps>(machine: &mut Machine<A>, order: Order)
     requires able { A.able }
+    requires named { order_words order ≢ None }
     requires start { machine.old.schedule ≡ [] }
     requires running { machine.old.halted ≡ None }
     ensures programs { machine.new.programs ≡ machine.old.programs }
@@ -116,6 +129,7 @@ fn play_as<A: Amps>(machine: &mut Machine<A>, order: Order)
     match order {
         Order::Lowest => play_order(machine),
         Order::Seeded { seed } => play_seed(machine, seed),
+        Order::Any => unreachable!(),
     }
 }
 
@@ -159,6 +173,9 @@ fn put_block<A: Amps, O: Sink>(sink: &mut O, run: &Run<A>) -> Result<(), Failed>
     match run.play.listing {
         Listing::Nothing => Ok(()),
         Listing::Trace => put_trace(sink, run.machine.ready(), run.machine.schedule()),
+        Listing::Turns => put_turns(sink, run.machine.schedule()),
+        Listing::TurnsOfStop if run.halt.is_some() => put_turns(sink, run.machine.schedule()),
+        Listing::TurnsOfStop => Ok(()),
     }
 }
 

@@ -1,21 +1,20 @@
-//! The top call.
-ghost use Rattle.std.specs.Prelude.{◌≡◌, ◌≤◌, length, map, IfOk, None, Err, Some};
+//! The top call without threads.
+ghost use Rattle.std.specs.Prelude.{◌≡◌, ◌≤◌, length, map, None, Err};
 ghost use Rattle.std.specs.Option.{ForSome};
 ghost use Rattle.std.specs.String.{string_bytes};
 ghost use Rattle.qm_gen.specs.Laws.{IsReadyText};
 ghost use Rattle.qm_tool.specs.Answers.{AnswersCall, AnswersReady, AnswersText, Concludes, MayPut, answer_in};
 ghost use Rattle.qm_tool.specs.Calls.{call};
-ghost use Rattle.qm_tool.specs.Commands.{command_of, made_of, IsOnPrograms};
+ghost use Rattle.qm_tool.specs.Commands.{command_of, made_of, plain_of, threads_of, IsOnPrograms};
 ghost use Rattle.qm_tool.specs.Due.{ReadsReady};
 ghost use Rattle.qm_tool.specs.Promises.{Promises};
-ghost use Rattle.qm_tool.specs.Running.{IsRun, MayPutRun};
 
 use crate::answer::{Answer, put_answer};
 use crate::circuits::{amplitudes_of, check_of, circuit_of};
-use crate::command::{Command, PLAIN, Play, command_of};
+use crate::command::{Command, PLAIN, plain_of};
 use crate::reading::{read_ready, text_for};
 use crate::refusal::Refusal;
-use crate::running::Run;
+use crate::running::run_alone;
 use crate::status::Status;
 use qm_check::Ready;
 use qm_denot::Amps;
@@ -23,22 +22,7 @@ use qm_io::{Sink, Source};
 use qm_limits::MOST_BYTES;
 use qm_print::FaultLine;
 use qm_store::ScaledAmps;
-use std::alloc::{AllocError, Global};
-
-/// A run of the programs of a text over a store in one list. `AllocError` comes from the allocator alone.
-fn run_ready(
-    alloc: Global,
-    play: Play,
-    text: Vec<u8>,
-    ready: Ready,
-) -> Result<Run<ScaledAmps>, AllocError>
-    requires { ReadsReady text.items ready }
-    ensures run { IfOk result (IsRun (⟦<ScaledAmps as Amps>⟧.store) play ready) }
-    ensures may_put { IfOk result (MayPutRun (⟦<ScaledAmps as Amps>⟧.store)) }
-{
-    let amps = ScaledAmps::start(alloc, ready.capacity())?;
-    Run::start(alloc, play, text, ready, amps)
-}
+use std::alloc::Global;
 
 /// What is due for the programs of a text under a command that does more than write them.
 fn answer_ready(
@@ -49,15 +33,16 @@ fn answer_ready(
 ) -> Result<Answer<ScaledAmps>, Refusal>
     requires ready { ReadsReady text.items ready }
     requires on_programs { IsOnPrograms command }
+    requires plain { threads_of command ≡ None }
     ensures { AnswersReady (⟦<ScaledAmps as Amps>⟧.store) ready command result }
 {
     match command {
         Command::Run { play } => {
-            let run = run_ready(alloc, play, text, ready)?;
+            let run = run_alone(alloc, play, text, ready)?;
             Ok(Answer::Played { run })
         }
         Command::Job { recipe } => {
-            let run = run_ready(alloc, PLAIN, text, ready)?;
+            let run = run_alone(alloc, PLAIN, text, ready)?;
             Ok(Answer::Worked { recipe, run })
         }
         Command::Mono => circuit_of(alloc, ready),
@@ -75,6 +60,7 @@ fn answer_text(
 ) -> Result<Answer<ScaledAmps>, Refusal>
     requires short { length text.items ≤ MOST_BYTES }
     requires made { ForSome (made_of command) (λ r. IsReadyText text.items) }
+    requires plain { threads_of command ≡ None }
     ensures { AnswersText (⟦<ScaledAmps as Amps>⟧.store) text.items command result }
 {
     if let Command::Gen { .. } = command {
@@ -94,11 +80,12 @@ fn answer_to<I: Source>(
     source: &mut I,
 ) -> Result<Answer<ScaledAmps>, Refusal>
     ensures due { AnswersCall (⟦<ScaledAmps as Amps>⟧.store)
-        (command_of (map string_bytes words.now)) (I.seen source.old) (I.seen source.new) result }
-    ensures usage { command_of (map string_bytes words.now) ≡ None
+        (plain_of (command_of (map string_bytes words.now))) (I.seen source.old) (I.seen source.new)
+        result }
+    ensures usage { plain_of (command_of (map string_bytes words.now)) ≡ None
         → result ≡ Err (Refusal.Line FaultLine.Usage) }
 {
-    let Some(command) = command_of(words) else {
+    let Some(command) = plain_of(words) else {
         return Err(Refusal::Line {
             fault: FaultLine::Usage,
         });
@@ -119,7 +106,7 @@ fn answer_in<A: Amps>(answer: Result<Answer<A>, Refusal>) -> Option<Answer<A>>
 }
 
 /// Writes the answer of a command, or the line in its place, where memory was left for it, and tells how the command ended.
-fn conclude<A: Amps, O: Sink>(sink: &mut O, answer: Result<Answer<A>, Refusal>) -> Status
+pub(crate) fn conclude<A: Amps, O: Sink>(sink: &mut O, answer: Result<Answer<A>, Refusal>) -> Status
     requires { ForSome (answer_in answer) (MayPut A.store) }
     ensures { Concludes A.store (answer_in answer) (O.seen sink.old) (O.seen sink.new) result }
 {
@@ -133,11 +120,13 @@ fn conclude<A: Amps, O: Sink>(sink: &mut O, answer: Result<Answer<A>, Refusal>) 
     }
 }
 
-/// Does a command: takes its words and a source, writes what is due to the sink and flushes it, and tells how the command ended.
+/// Does a command that needs no threads: takes its words and a source, writes what is due to the sink and flushes it, and tells how the
+/// command ended.
 ///
 /// The commands are `plain`, `sched K`, `trace K`, `mono`, `mono amps`, `check`, `gen KIND SIZE NUMBER` and `job KIND SIZE NUMBER`, where K
 /// and NUMBER have 1 to 20 decimal digits and are at most 2^64 - 1, KIND is `ring`, `ghz` or `parity`, and SIZE has 1 to 9 decimal digits
-/// and is 1 to 10,000 for a ring, 2 to 10 for a GHZ state and 1 to 9,000 for a parity; all other words are answered by `Usage`. All but
+/// and is 1 to 10,000 for a ring, 2 to 10 for a GHZ state and 1 to 9,000 for a parity; all other words, `run` and `run turns` among them,
+/// are answered by `Usage`. All but
 /// `gen` and `job` read programs. The first three give the ranks their turns until all have ended, and write the state text: under
 /// `plain` each turn is the lowest rank's that is neither ended nor blocked, under the other two the one's that the seed K chooses, and
 /// `trace K` writes the events of the turns too. `mono` writes the text of the programs' one circuit, `mono amps` the state text of its
@@ -149,7 +138,7 @@ pub fn tool_plain<I: Source, O: Sink>(
     source: &mut I,
     sink: &mut O,
 ) -> Status
-    ensures { Promises (call (command_of (map string_bytes words.now)) (I.seen source.old)
+    ensures { Promises (call (plain_of (command_of (map string_bytes words.now))) (I.seen source.old)
         (I.seen source.new) (O.seen sink.old) (O.seen sink.new) result) }
 {
     let answer = answer_to(alloc, words, source);

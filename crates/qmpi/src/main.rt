@@ -2,7 +2,8 @@
 #![tactic(auto)]
 
 use qm_io::{StdSink, StdSource};
-use qm_tool::tool_plain;
+use qm_ranks::NoGate;
+use qm_tool::tool;
 use std::alloc::AllocError;
 use std::env::{Env, FillError};
 use std::process::ExitCode;
@@ -39,6 +40,6 @@ fn main(rt: HostRuntime) -> ExitCode {
     };
     let mut source = StdSource::start(rt.stdin());
     let mut sink = StdSink::start(rt.stdout());
-    let status = tool_plain(rt.alloc(), &words, &mut source, &mut sink);
+    let status = tool(&rt, rt.alloc(), &words, &mut source, &mut sink, &NoGate);
     ExitCode::from(status.code())
 }

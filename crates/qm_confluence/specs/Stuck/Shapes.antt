@@ -59,7 +59,8 @@ shapes r (instr.MoveFrom q from tag) = let a = lane from r kind.Move tag in shap
 shapes r (instr.ReachTo q to tag) =
     let a = lane r to kind.Reach tag in
     let back = lane to r kind.Back tag in
-    shape (PairRoom a) (Puts a false ∷ []) ∷ still_shape ∷ shape Always (Tells a ∷ []) ∷ shape (Filled back) (Gets back ∷ []) ∷ still_shape ∷ []
+    shape (PairRoom a) (Puts a false ∷ []) ∷ still_shape ∷ shape Always (Tells a ∷ [])
+    ∷ shape (Filled back) (Gets back ∷ []) ∷ still_shape ∷ []
 shapes r (instr.ReachFrom q from tag) =
     let a = lane from r kind.Reach tag in
     let back = lane r from kind.Back tag in

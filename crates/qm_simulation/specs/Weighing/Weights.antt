@@ -23,7 +23,8 @@ pub record HalvesWeight (p : Programs) (schedule : List ℕ) (r : ℕ) : Type 0 
 pub record IsWeighed (p : Programs) (schedule : List ℕ) : Type 0 where
   pub some : weight (replay p schedule).circuit ≢ 0
   pub few : weight (replay p schedule).circuit * 2 ^ outcomes_done p schedule ≤ 2 ^ halvings (replay p schedule).circuit
-  pub halves : (r : ℕ) → MayStep p (replay p schedule) r → row_outcomes (row_next p (replay p schedule).tables r) ≡ 1 → HalvesWeight p schedule r
+  pub halves : (r : ℕ) → MayStep p (replay p schedule) r → row_outcomes (row_next p (replay p schedule).tables r) ≡ 1
+      → HalvesWeight p schedule r
 
 -- of every legal schedule
 abbrev pub WeightLaw : Type 0

@@ -3,10 +3,13 @@ ghost use Rattle.std.specs.Prelude.{◌<◌};
 
 use super::watched::WatchedSink;
 use qm_io::{Sink, Source, SureSource};
-use qm_tool::tool_plain;
+use qm_ranks::Turnstile;
+use qm_tool::{tool, tool_plain};
 use std::alloc::{AllocError, Global};
 use std::process::Abort;
+use std::sync::Wait;
 use std::test::Fail;
+use std::thread::Threads;
 
 /// The words, the source's text, the exit status, and the bytes that the sink takes.
 pub(super) type Row = (&'static str, &'static str, u8, &'static str);
@@ -34,15 +37,46 @@ pub(super) fn status_of<I: Source, O: Sink>(
     Ok(tool_plain(alloc, &words, source, sink).code())
 }
 
+/// The same of a command that may start threads, which pass this gate.
+pub(super) fn threaded_status_of<R: Threads + Wait + Sync, I: Source, O: Sink, G: Turnstile + Sync>(
+    rt: &R,
+    alloc: Global,
+    line: &str,
+    ends: (&mut I, &mut O),
+    gate: &G,
+) -> Result<u8, AllocError> {
+    let words = words_of(alloc, line)?;
+    let (source, sink) = ends;
+    Ok(tool(rt, alloc, &words, source, sink, gate).code())
+}
+
+/// A source of a text, of which it gives 7 bytes a call, and a sink that takes 8 bytes a call and doesn't fail.
+fn sure_ends(alloc: Global, text: &[u8]) -> Result<(SureSource, WatchedSink), AllocError> {
+    let source = SureSource::start(text.to_vec(alloc)?, 7);
+    Ok((source, WatchedSink::start(alloc, ROOM, 0, 8)?))
+}
+
 /// The exit status of a command over a text that is read 7 bytes a call, and the sink, which takes 8 bytes a call and doesn't fail.
 pub(super) fn answer(
     alloc: Global,
     line: &str,
     text: &[u8],
 ) -> Result<(u8, WatchedSink), AllocError> {
-    let mut source = SureSource::start(text.to_vec(alloc)?, 7);
-    let mut sink = WatchedSink::start(alloc, ROOM, 0, 8)?;
+    let (mut source, mut sink) = sure_ends(alloc, text)?;
     let code = status_of(alloc, line, &mut source, &mut sink)?;
+    Ok((code, sink))
+}
+
+/// The same of a command that may start threads, which pass this gate.
+pub(super) fn answer_by_threads<R: Threads + Wait + Sync, G: Turnstile + Sync>(
+    rt: &R,
+    alloc: Global,
+    line: &str,
+    text: &[u8],
+    gate: &G,
+) -> Result<(u8, WatchedSink), AllocError> {
+    let (mut source, mut sink) = sure_ends(alloc, text)?;
+    let code = threaded_status_of(rt, alloc, line, (&mut source, &mut sink), gate)?;
     Ok((code, sink))
 }
 
@@ -54,7 +88,17 @@ pub(super) fn expect(
     text: &[u8],
     due: (u8, &str),
 ) -> Result<(), Fail> {
-    let (code, sink) = answer(alloc, line, text)?;
+    expect_answer(rt, line, answer(alloc, line, text)?, due)
+}
+
+/// Tries that this is the answer of a command, and that its sink was flushed once, at the end.
+pub(super) fn expect_answer(
+    rt: &impl Abort,
+    line: &str,
+    answer: (u8, WatchedSink),
+    due: (u8, &str),
+) -> Result<(), Fail> {
+    let (code, sink) = answer;
     assert_eq!(rt;
         str::from_utf8(sink.taken()).unwrap_or("no text"),
         due.1,

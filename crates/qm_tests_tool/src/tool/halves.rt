@@ -15,7 +15,11 @@ use std::test::Fail;
 const MANY_TURNS: u32 = 1_000;
 
 /// A machine of the programs of a text, before its first event.
-fn machine_of(rt: &impl Abort, alloc: Global, text: &str) -> Result<Machine<PlainAmps>, Fail> {
+pub(super) fn machine_of(
+    rt: &impl Abort,
+    alloc: Global,
+    text: &str,
+) -> Result<Machine<PlainAmps>, Fail> {
     let text = text.as_bytes().to_vec(alloc)?;
     assert!(rt; text.len() <= MOST_BYTES, "a short text");
     let ready = check(alloc, read(alloc, &text)?)?;
@@ -35,7 +39,7 @@ fn most_held(machine: &Machine<PlainAmps>) -> u32 {
 }
 
 /// Steps the rank that a number is modulo the number of ranks.
-fn step_at(machine: &mut Machine<PlainAmps>, number: u32) -> Step {
+pub(super) fn step_at(machine: &mut Machine<PlainAmps>, number: u32) -> Step {
     let ranks = u32::from(machine.ready().input().ranks());
     machine.step(number % ranks)
 }

@@ -11,8 +11,8 @@ use std::test::Fail;
 /// Words that are no command.
 const USAGE: [&str; 35] = [
     "",
-    "run",
-    "run turns",
+    "run more",
+    "run turns more",
     "amps",
     "trace",
     "trace x",

@@ -1,12 +1,10 @@
 use Rattle.std.proofs.Common.{◌≡◌, ◌∙◌, ℕ, suc, ◌+◌, ◌-◌, ◌≤◌, cond, Bool, true, false, length, sym, ap, subst, arith, length-take, length-drop}
 use Rattle.std.proofs.lemmas.List.{nil_from_length}
 use Rattle.std.proofs.lemmas.Bool.{eqb-true}
-use Rattle.qm_lex.specs.Lexing.{token_list}
 use Rattle.qm_expand.specs.declared.draft.Draft.{Draft}
 use Rattle.qm_expand.specs.Steps.{◌>>=◌}
-use Rattle.qm_expand.specs.Reading.{lines_of}
-use Rattle.qm_expand.specs.Walk.{bytes_in, blocks_walked, is_all}
-use Rattle.qm_expand.specs.Views.{draft_seen}
+use Rattle.qm_expand.specs.Walk.{blocks_walked, is_all}
+use Rattle.qm_expand.specs.Views.{words_of, draft_seen}
 use Rattle.qm_expand.proofs.DraftLemmas.{Answers-exit}
 use Rattle.qm_expand.proofs.ProgramLemmas.{block-none, block-some}
 use Rattle.qm_expand.proofs.program.expand_blocks.Goals as goal
@@ -18,8 +16,7 @@ either false m n k p q = q
 
 pub returns-in_err-expand_block-clause-answers : goal.returns-in_err-expand_block-clause-answers
 returns-in_err-expand_block-clause-answers c =
-    let bytes = bytes_in c.args.text.now (token_list c.args.tokens.now) in
-    let lines = lines_of (token_list c.args.tokens.now) in
+    let words = words_of c.args.source.now in
     let nodes = c.args.nodes.now in
     let left = c.args.ranks - (c.loop-rank.rank + 1) in
     let more : c.args.ranks - c.loop-rank.rank ≡ suc left = omega (arith, c.loop-rank-test.true) in
@@ -29,14 +26,13 @@ returns-in_err-expand_block-clause-answers c =
     let fits : length c.upto-own.result.now ≤ length nodes = omega arith in
     Answers-exit _ _ _ _ _ _ c.from_residual.ensures.1 (c.in_err-expand_block.ensures.answers (length nodes) fits)
     (sym c.loop-rank.invariant.rest
-    ∙ block-some bytes lines nodes (c.args.ranks - c.loop-rank.rank) left c.loop-rank.rank c.loop-rank.at c.loop-rank.used (draft_seen c.loop-rank.draft) more
+    ∙ block-some words nodes c.args.head (c.args.ranks - c.loop-rank.rank) left c.loop-rank.rank c.loop-rank.at c.loop-rank.used (draft_seen c.loop-rank.draft) more
     c.first_of-block.result c.after-rest.result.now c.after-behind.result.now c.upto-own.result.now c.own_len-len.result
     c.after-rest.ensures c.first_of-block.ensures c.after-behind.ensures c.own_len-len.ensures.value c.upto-own.ensures)
 
 pub loop-rank-preserved : goal.loop-rank-preserved
 loop-rank-preserved c =
-    let bytes = bytes_in c.args.text.now (token_list c.args.tokens.now) in
-    let lines = lines_of (token_list c.args.tokens.now) in
+    let words = words_of c.args.source.now in
     let nodes = c.args.nodes.now in
     let rank = c.loop-rank.rank in
     let at = c.loop-rank.at in
@@ -54,7 +50,7 @@ loop-rank-preserved c =
           let low = c.loop-rank.invariant.at in
           let fits : length w.upto-own.result.now ≤ length nodes = omega arith in
           let next : at + 1 + len ≤ length nodes = omega arith in
-          let step = block-some bytes lines nodes (c.args.ranks - rank) left rank at c.loop-rank.used (draft_seen c.loop-rank.draft) more
+          let step = block-some words nodes c.args.head (c.args.ranks - rank) left rank at c.loop-rank.used (draft_seen c.loop-rank.draft) more
           block c.after-rest.result.now w.after-behind.result.now w.upto-own.result.now len
           c.after-rest.ensures w.first_of-block.ensures w.after-behind.ensures w.own_len-len.ensures.value w.upto-own.ensures in
           let walked = w.in_ok-expand_block.ensures.answers (length nodes) fits in
@@ -64,10 +60,10 @@ loop-rank-preserved c =
             used = subst (λ k. k ≤ length nodes) (sym w.used-is) next;
             ranks = ap (λ (d : Draft). length d.input.ranks) w.draft-is ∙ w.in_ok-expand_block.ensures.ranks ∙ c.loop-rank.invariant.ranks;
             rest =
-                ap (λ k. blocks_walked bytes lines nodes left (rank + 1) k c.if-not-is_empty.used (draft_seen c.if-not-is_empty.draft)) at_is
-                ∙ ap (λ k. blocks_walked bytes lines nodes left (rank + 1) (cond (is_all block.what) at (at + 1 + len)) k (draft_seen c.if-not-is_empty.draft)) w.used-is
-                ∙ ap (λ (d : Draft). blocks_walked bytes lines nodes left (rank + 1) (cond (is_all block.what) at (at + 1 + len)) (at + 1 + len) (draft_seen d)) w.draft-is
-                ∙ sym (step ∙ ap (λ o. o >>= λ e. blocks_walked bytes lines nodes left (rank + 1) (cond (is_all block.what) at (at + 1 + len)) (at + 1 + len) e) walked)
+                ap (λ k. blocks_walked words nodes c.args.head left (rank + 1) k c.if-not-is_empty.used (draft_seen c.if-not-is_empty.draft)) at_is
+                ∙ ap (λ k. blocks_walked words nodes c.args.head left (rank + 1) (cond (is_all block.what) at (at + 1 + len)) k (draft_seen c.if-not-is_empty.draft)) w.used-is
+                ∙ ap (λ (d : Draft). blocks_walked words nodes c.args.head left (rank + 1) (cond (is_all block.what) at (at + 1 + len)) (at + 1 + len) (draft_seen d)) w.draft-is
+                ∙ sym (step ∙ ap (λ o. o >>= λ e. blocks_walked words nodes c.args.head left (rank + 1) (cond (is_all block.what) at (at + 1 + len)) (at + 1 + len) e) walked)
                 ∙ c.loop-rank.invariant.rest;
           }
       | else-not-is_empty w ↦
@@ -77,10 +73,10 @@ loop-rank-preserved c =
             used = subst (λ k. k ≤ length nodes) (sym w.used-is) c.loop-rank.invariant.used;
             ranks = ap (λ (d : Draft). length d.input.ranks) w.draft-is ∙ c.loop-rank.invariant.ranks;
             rest =
-                ap (λ k. blocks_walked bytes lines nodes left (rank + 1) k c.if-not-is_empty.used (draft_seen c.if-not-is_empty.draft)) w.at-is
-                ∙ ap (λ k. blocks_walked bytes lines nodes left (rank + 1) at k (draft_seen c.if-not-is_empty.draft)) w.used-is
-                ∙ ap (λ (d : Draft). blocks_walked bytes lines nodes left (rank + 1) at c.loop-rank.used (draft_seen d)) w.draft-is
-                ∙ sym (block-none bytes lines nodes (c.args.ranks - rank) left rank at c.loop-rank.used (draft_seen c.loop-rank.draft) more none)
+                ap (λ k. blocks_walked words nodes c.args.head left (rank + 1) k c.if-not-is_empty.used (draft_seen c.if-not-is_empty.draft)) w.at-is
+                ∙ ap (λ k. blocks_walked words nodes c.args.head left (rank + 1) at k (draft_seen c.if-not-is_empty.draft)) w.used-is
+                ∙ ap (λ (d : Draft). blocks_walked words nodes c.args.head left (rank + 1) at c.loop-rank.used (draft_seen d)) w.draft-is
+                ∙ sym (block-none words nodes c.args.head (c.args.ranks - rank) left rank at c.loop-rank.used (draft_seen c.loop-rank.draft) more none)
                 ∙ c.loop-rank.invariant.rest;
           }
     ]

@@ -5,11 +5,11 @@ use Rattle.qm_expand.proofs.values.value.Given as goal
 
 abbrev pub invariant-loop-used : goal.invariant-loop-used
 invariant-loop-used l =
-    let bytes = words_of l.context in
-    let s = scope_in l.context in
+    let words = words_of l.context.source in
+    let s = scope_in l.context l.names.items in
     record {
       within : l.used ≤ length l.nodes;
-      rest : value_from bytes l.line s l.used (reverse l.stack.items) (drop l.used l.nodes) ≡ value_at bytes l.line s l.nodes;
+      rest : value_from words l.line s l.used (reverse l.numbers.items) (drop l.used l.nodes) ≡ value_at words l.line s l.nodes;
     }
 
 abbrev pub decreases-loop-used : goal.decreases-loop-used

@@ -1,4 +1,4 @@
-use Rattle.std.proofs.Common.{◌≤◌, ◌<◌, ◌-◌, ◌^◌, Bool, true, false, arith}
+use Rattle.std.proofs.Common.{◌≤◌, ◌<◌, ◌^◌, Bool, true, false, arith}
 use mir.Val.{bool_byte}
 use Rattle.qm_ideal.specs.Views.{tables_of}
 use Rattle.qm_ideal.proofs.NumberLemmas.{left_few}

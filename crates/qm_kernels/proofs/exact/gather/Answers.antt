@@ -1,5 +1,8 @@
-use Rattle.qm_kernels.proofs.ExactLaws.{take_exact}
+use Rattle.std.proofs.Common.{refl}
+use Rattle.qm_zomega.specs.Zw.{value_of}
+use Rattle.qm_kernels.proofs.MovedLaws.{take_meant}
+use Rattle.qm_kernels.specs.ZwZero.{zero_zw}
 use Rattle.qm_kernels.proofs.exact.gather.Goals as goal
 
 pub returns-clause-taken : goal.returns-clause-taken
-returns-clause-taken c = take_exact _ _ c.args.place c.args.m _ c.gather.ensures.gathered
+returns-clause-taken c = take_meant value_of zero_zw refl _ _ c.args.place c.args.m _ c.gather.ensures.gathered

@@ -1,7 +1,7 @@
 use Rattle.std.proofs.Common.{◌&&◌, arith}
 use Rattle.std.proofs.lemmas.Int.{ints}
 use Rattle.qm_kernels.specs.Small.{IsSmallPart}
-use Rattle.qm_kernels.proofs.SmallLaws.{both_true}
+use Rattle.qm_kernels.proofs.Bools.{both_true}
 use Rattle.qm_kernels.proofs.small.is_small.Goals as goal
 
 pub returns : goal.returns

@@ -2,19 +2,20 @@ use Rattle.std.proofs.Common.{true}
 use Rattle.std.proofs.lemmas.Bool.{not-true, not-false}
 use Rattle.qm_denot.proofs.PlaceBounds.{size_small}
 use Rattle.qm_denot.proofs.BranchLaws.{branch_from_index, zero_from_indexes}
+use Rattle.qm_store.specs.Numerators.{items_of}
 use Rattle.qm_store.proofs.ScaledAmpsAmps.always_zero.Goals as goal
 
 pub any_with-requires-clause-small : goal.any_with-requires-clause-small
-any_with-requires-clause-small c = let s = c.args.self.now in rw c.deref.ensures.value (size_small _ _ _ s.size s.few s.small)
+any_with-requires-clause-small c = let s = c.args.self.now in (size_small _ _ _ s.size s.few s.small)
 
 pub returns-clause-yes : goal.returns-clause-yes
 returns-clause-yes c = λ none.
     let s = c.args.self.now in
-    zero_from_indexes s.live.items s.numerators.items s.kept.distinct c.place_of.result c.args.w (rw c.deref-2.ensures.value at c.place_of.ensures.first) true
-    (rw (c.deref.ensures.value, s.size) at (c.any_with.ensures.no (not-true _ none)))
+    zero_from_indexes s.live.items (items_of s.numerators) s.kept.distinct c.place_of.result c.args.w (rw c.deref.ensures.value at c.place_of.ensures.first) true
+    (rw s.size at (c.any_with.ensures.no (not-true _ none)))
 
 pub returns-clause-no : goal.returns-clause-no
 returns-clause-no c = λ found.
     let s = c.args.self.now in
-    branch_from_index s.live.items s.numerators.items s.kept.distinct c.place_of.result c.args.w (rw c.deref-2.ensures.value at c.place_of.ensures.first) true
-    (rw (c.deref.ensures.value, s.size) at (c.any_with.ensures.yes (not-false _ found)))
+    branch_from_index s.live.items (items_of s.numerators) s.kept.distinct c.place_of.result c.args.w (rw c.deref.ensures.value at c.place_of.ensures.first) true
+    (rw s.size at (c.any_with.ensures.yes (not-false _ found)))

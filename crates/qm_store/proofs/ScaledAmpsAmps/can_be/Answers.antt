@@ -1,18 +1,19 @@
 use Rattle.qm_denot.proofs.PlaceBounds.{size_small}
 use Rattle.qm_denot.proofs.BranchLaws.{branch_from_index, zero_from_indexes}
+use Rattle.qm_store.specs.Numerators.{items_of}
 use Rattle.qm_store.proofs.ScaledAmpsAmps.can_be.Goals as goal
 
 pub any_with-requires-clause-small : goal.any_with-requires-clause-small
-any_with-requires-clause-small c = let s = c.args.self.now in rw c.deref.ensures.value (size_small _ _ _ s.size s.few s.small)
+any_with-requires-clause-small c = let s = c.args.self.now in size_small _ _ _ s.size s.few s.small
 
 pub returns-clause-yes : goal.returns-clause-yes
 returns-clause-yes c = λ found.
     let s = c.args.self.now in
-    branch_from_index s.live.items s.numerators.items s.kept.distinct c.place_of.result c.args.w (rw c.deref-2.ensures.value at c.place_of.ensures.first) c.args.m
-    (rw (c.deref.ensures.value, s.size) at (c.any_with.ensures.yes found))
+    branch_from_index s.live.items (items_of s.numerators) s.kept.distinct c.place_of.result c.args.w (rw c.deref.ensures.value at c.place_of.ensures.first) c.args.m
+    (rw s.size at (c.any_with.ensures.yes found))
 
 pub returns-clause-no : goal.returns-clause-no
 returns-clause-no c = λ none.
     let s = c.args.self.now in
-    zero_from_indexes s.live.items s.numerators.items s.kept.distinct c.place_of.result c.args.w (rw c.deref-2.ensures.value at c.place_of.ensures.first) c.args.m
-    (rw (c.deref.ensures.value, s.size) at (c.any_with.ensures.no none))
+    zero_from_indexes s.live.items (items_of s.numerators) s.kept.distinct c.place_of.result c.args.w (rw c.deref.ensures.value at c.place_of.ensures.first) c.args.m
+    (rw s.size at (c.any_with.ensures.no none))

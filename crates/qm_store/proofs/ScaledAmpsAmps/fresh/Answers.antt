@@ -4,6 +4,7 @@ use Rattle.std.proofs.Math.Pow.{pow_mono}
 use Rattle.qm_denot.proofs.PlaceBounds.{size_small}
 use Rattle.qm_denot.proofs.Numerators.{items-pushed}
 use Rattle.qm_denot.proofs.FreshLaws.{stands_fresh, size_fresh, keeps_fresh}
+use Rattle.qm_store.specs.Numerators.{items_of}
 use Rattle.qm_store.proofs.ScaledAmpsAmps.fresh.Goals as goal
 use Rattle.qm_store.proofs.ScaledAmpsAmps.fresh.Goals.{After-push}
 
@@ -29,13 +30,13 @@ invariant_of-self c =
       small = s.small;
       few = omega (arith, c.requires.room, ap length live, length-append s.live.items (c.args.w ∷ []));
       live_room = omega (arith, c.push.ensures.capacity, s.live_room);
-      size = rw live (size_fresh s.live.items c.args.w s.numerators.items c.double.new.numerators.items s.exponent s.kept s.size c.requires.absent c.double.ensures.size c.double.ensures.numbers);
+      size = rw live (size_fresh s.live.items c.args.w (items_of s.numerators) (items_of c.double.new.self) s.exponent s.kept s.size c.requires.absent c.double.ensures.size c.double.ensures.numbers);
       room = omega (arith, c.double.ensures.room, s.room);
-      kept = rw live (keeps_fresh s.live.items c.args.w s.numerators.items c.double.new.numerators.items s.exponent s.kept s.size c.requires.absent c.double.ensures.size c.double.ensures.numbers);
+      kept = rw live (keeps_fresh s.live.items c.args.w (items_of s.numerators) (items_of c.double.new.self) s.exponent s.kept s.size c.requires.absent c.double.ensures.size c.double.ensures.numbers);
     }
 
 pub returns-clause-stands : goal.returns-clause-stands
 returns-clause-stands c =
     let s = c.args.self.now in
     rw (pushed (goal.at.returns-clause-stands c).After-push)
-    (stands_fresh s.live.items c.args.w s.numerators.items c.double.new.numerators.items s.exponent s.kept s.size c.requires.absent c.double.ensures.size c.double.ensures.numbers s.capacity)
+    (stands_fresh s.live.items c.args.w (items_of s.numerators) (items_of c.double.new.self) s.exponent s.kept s.size c.requires.absent c.double.ensures.size c.double.ensures.numbers s.capacity)

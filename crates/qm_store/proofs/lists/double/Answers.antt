@@ -1,8 +1,8 @@
-use Rattle.std.proofs.Common.{refl, arith}
-use Rattle.qm_denot.proofs.Numerators.{number_at-resized}
+use Rattle.std.proofs.Common.{arith}
+use Rattle.qm_store.proofs.ListLaws.{meant-resized}
 use Rattle.qm_store.proofs.lists.double.Goals as goal
 
 pub returns-clause-numbers : goal.returns-clause-numbers
-returns-clause-numbers c =
+returns-clause-numbers g c =
     let v = c.args.numerators.now in
-    number_at-resized _ v.items c.resize.new.self.items _ _ _ c.resize.ensures.items (c.resize.ensures.succeeds (omega (arith, v.ok.0))) (omega (arith, v.ok.0, c.len-size.ensures)) refl
+    meant-resized g.Z.Numerator.meaning _ v.items c.resize.new.self.items _ _ _ c.resize.ensures.items (c.resize.ensures.succeeds (omega (arith, v.ok.0))) (omega (arith, v.ok.0, c.len-size.ensures)) c.zero.ensures

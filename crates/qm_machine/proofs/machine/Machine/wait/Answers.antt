@@ -1,4 +1,3 @@
-use Rattle.std.proofs.Common.{◌≡◌}
 use Rattle.qm_proto.specs.Model.Schedules.{replay, IsStuck, NoneEnabled}
 use Rattle.qm_machine.specs.Views.{tables}
 use Rattle.qm_machine.proofs.Steps.{at_body, step_blocked}

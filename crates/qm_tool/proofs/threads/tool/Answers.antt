@@ -1,0 +1,9 @@
+use Rattle.std.proofs.Common.{sym, ◌∙◌}
+use Rattle.qm_tool.proofs.CallLaws.{Ran-promises, Threads-ran}
+use Rattle.qm_tool.proofs.CommandLemmas.{threaded-run}
+use Rattle.qm_tool.proofs.threads.tool.Goals as goal
+
+pub returns-in-Some : goal.returns-in-Some
+returns-in-Some g c =
+    let is = (threaded-run c.in-Some.play _ (sym c.threads_of.ensures ∙ c.in-Some.is)).0 in
+    Ran-promises _ _ _ _ _ _ (Threads-ran _ _ _ _ _ _ _ _ c.in-Some.play is c.answer_by_threads.ensures c.conclude.ensures)
