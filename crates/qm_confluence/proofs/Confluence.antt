@@ -15,3 +15,9 @@ pub mod Confluent
 pub mod ProperLetters
 pub mod NamedWires
 pub mod Placeless
+pub mod GoneWires
+pub mod GoodLetters
+pub mod SameSteps
+pub mod Told
+pub mod Drawn
+pub mod DrawnAhead

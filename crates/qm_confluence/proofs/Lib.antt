@@ -1,5 +1,6 @@
 pub mod Endings
 pub mod Stuck
 pub mod Confluence
+pub mod Tapes
 mod CollectiveLetters
 mod WorkedOrders

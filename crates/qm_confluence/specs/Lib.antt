@@ -1,4 +1,9 @@
 pub mod Counted
+pub mod Tapes
+pub mod Letters
+pub mod Outcomes
+pub mod Told
+pub mod Drawn
 pub mod Endings
 pub mod Stuck
 pub mod Confluence

@@ -4,5 +4,7 @@
 
 pub mod collectives;
 pub mod existence;
+pub mod letters;
 pub mod meeting;
 pub mod orders;
+pub mod outcomes;

@@ -1,9 +1,9 @@
-pub mod ListLemmas
-pub mod LiveLemmas
+mod ListLemmas
+mod LiveLemmas
 pub mod RoomLemmas
-pub mod StepLemmas
-pub mod RunLemmas
-pub mod EndLemmas
-pub mod OverflowLemmas
-pub mod LetterLemmas
-pub mod CircuitLemmas
+mod StepLemmas
+mod RunLemmas
+mod EndLemmas
+mod OverflowLemmas
+mod LetterLemmas
+mod CircuitLemmas

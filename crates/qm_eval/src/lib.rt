@@ -15,10 +15,12 @@ use letters::do_letters;
 use qm_check::Ready;
 use qm_denot::Amps;
 use qm_ideal::OneCircuit;
+use thiserror::Error;
 use wires::make_slots_live;
 
 /// The amplitudes leave the range of the numbers at a letter of the circuit: its number, from 0.
-#[derive(Clone, Copy, PartialEq, Eq, Debug)]
+#[derive(Clone, Copy, PartialEq, Eq, Debug, Error)]
+#[error("letter {at} leaves the range of the numbers")]
 pub struct LetterOverflow {
     pub at: u32,
 }

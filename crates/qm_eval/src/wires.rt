@@ -1,5 +1,5 @@
 //! Wires that a store makes live where they aren't yet.
-ghost use Rattle.std.specs.Prelude.{[], ◌∷◌, ◌↔◌, IsTrue, Contains};
+ghost use Rattle.std.specs.Prelude.{[], ◌∷◌, Contains};
 ghost use Rattle.qm_ideal.specs.OneCircuits.{slot_of, wires_below};
 ghost use Rattle.qm_proto.specs.Model.Ideal.{made_fresh};
 ghost use Rattle.qm_eval.specs.Live.{HasRoomFor, MakesLive};
@@ -8,20 +8,13 @@ use qm_denot::{Amps, Letter, Wire};
 use qm_ideal::OneCircuit;
 use qm_limits::SLOTS;
 
-/// Whether a wire is live.
-pub(crate) fn is_live<A: Amps>(amps: &A, w: Wire) -> bool
-    ensures { IsTrue result ↔ Contains (A.store amps.now).live w }
-{
-    amps.live().contains(&w)
-}
-
 /// Makes a wire live, where it isn't yet.
 fn make_live<A: Amps>(amps: &mut A, w: Wire)
     requires able { A.able }
     requires room { HasRoomFor (w ∷ []) (A.store amps.old) }
     ensures { MakesLive (w ∷ []) (A.store amps.old) (A.store amps.new) }
 {
-    if !is_live(amps, w) {
+    if !amps.is_live(w) {
         amps.fresh(w);
     }
 }

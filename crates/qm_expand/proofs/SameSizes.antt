@@ -16,8 +16,8 @@ use Rattle.qm_parse.specs.declared.words.Action.TheVariants as action
 use Rattle.qm_parse.specs.declared.words.Keyword.{Keyword}
 use Rattle.qm_parse.specs.declared.words.Operand.TheVariants as operand
 use Rattle.qm_parse.specs.declared.words.Verb.{Verb}
-use Rattle.qm_parse.specs.Words.{Word, frame_word, older_words, meaning, size_count}
-use Rattle.qm_parse.specs.Signs.{Sign, Number, Key, Act, word_sign, sign, sign_of, signs_of, bytes_of}
+use Rattle.qm_parse.specs.Words.{Word, frame_word, verb_word, older_words, meaning, size_count}
+use Rattle.qm_parse.specs.Signs.{Sign, Number, Key, Act, Ident, word_sign, sign, sign_of, signs_of, bytes_of}
 use Rattle.qm_parse.specs.Trees.{Blocks, TapeLine, Program, ProgramMay}
 use Rattle.qm_parse.specs.Spelling.{blocks_signs, tapes_signs, numbers_signs, program_signs}
 use Rattle.qm_parse.specs.Nodes.{head_tokens}
@@ -25,7 +25,7 @@ use Rattle.qm_parse.specs.Faults.{Spells, IsShallow}
 use Rattle.qm_parse.proofs.ListLemmas.{head-same, tail-same}
 use Rattle.qm_expand.specs.Expansion.{sized, expanded}
 use Rattle.qm_expand.specs.Reading.{MadeOf, Reads, lines_of}
-use Rattle.qm_expand.specs.Laws.{written, older_text, same_text, unreduce_word, HasSameSizes}
+use Rattle.qm_expand.specs.Laws.{written, older_text, same_text, older_word, IsOlderWord, HasSameSizes}
 use Rattle.qm_expand.proofs.SignLemmas.{version-named, older-signs}
 use Rattle.qm_expand.proofs.TwoVersions.{as_two, same-made}
 
@@ -37,36 +37,65 @@ not-first w ws bytes e = rw e refl
 abbrev unreduce_verb : Verb
 unreduce_verb = record { action = action.Unreduce; operands = Some operand.Slot ∷ Some operand.Slot ∷ Some operand.Root ∷ Some operand.Tag ∷ [] }
 
-unreduce-is : unreduce_word ≡ Act unreduce_verb
+unreduce-is : older_word (codes "unreduce") ≡ Act unreduce_verb
 unreduce-is = refl
 
--- a token that isn't `unreduce` is the same in both versions
-same-token : (k : TokenKind) (bytes : List ℕ) → sign version.One k bytes ≢ unreduce_word → sign version.Two k bytes ≡ sign version.One k bytes
+treecast-is : older_word (codes "treecast") ≡ Ident (codes "treecast")
+treecast-is = refl
+
+untreecast-is : older_word (codes "untreecast") ≡ Ident (codes "untreecast")
+untreecast-is = refl
+
+-- the newer words
+abbrev unreduces : Word
+unreduces = frame_word (codes "unreduce") keyword.Unreduce
+
+abbrev treecasts : Word
+treecasts = verb_word (codes "treecast") action.Treecast (operand.Slot ∷ operand.Root ∷ operand.Tag ∷ [])
+
+abbrev untreecasts : Word
+untreecasts = verb_word (codes "untreecast") action.Untreecast (operand.Slot ∷ operand.Root ∷ operand.Tag ∷ [])
+
+-- words that are seen otherwise have other bytes
+other-bytes : (bytes word : List ℕ) → older_word bytes ≢ older_word word → bytes_eq bytes word ≡ false
+other-bytes bytes word apart = by_test (bytes_eq bytes word) refl
+  where
+    by_test : (t : Bool) → bytes_eq bytes word ≡ t → bytes_eq bytes word ≡ false
+    by_test true e = absurd (apart (ap older_word ((bytes_eq-Decides bytes word).0 e)))
+    by_test false e = e
+
+-- a token that is none of the newer words is the same in both versions
+same-token : (k : TokenKind) (bytes : List ℕ) → IsOlderWord (sign version.One k bytes) → sign version.Two k bytes ≡ sign version.One k bytes
 same-token kind.Number bytes n = refl
 same-token kind.Symbol bytes n = refl
-same-token kind.Word bytes n = by_test (bytes_eq bytes (codes "unreduce")) refl
-  where
-    by_test : (t : Bool) → bytes_eq bytes (codes "unreduce") ≡ t → sign version.Two kind.Word bytes ≡ sign version.One kind.Word bytes
-    by_test true e =
-        absurd
-        (n
-        (ap (sign version.One kind.Word) ((bytes_eq-Decides bytes (codes "unreduce")).0 e)))
-    by_test false e = ap (word_sign bytes) (not-first (frame_word (codes "unreduce") keyword.Unreduce) older_words bytes e)
+same-token kind.Word bytes n =
+    ap (word_sign bytes)
+    (not-first unreduces (treecasts ∷ untreecasts ∷ older_words) bytes (other-bytes bytes (codes "unreduce") n.0)
+    ∙ not-first treecasts (untreecasts ∷ older_words) bytes (other-bytes bytes (codes "treecast") n.1)
+    ∙ not-first untreecasts older_words bytes (other-bytes bytes (codes "untreecast") n.2))
 
--- none of these tokens is `unreduce`
+-- none of these tokens is a newer word
 abbrev Lacks : List Sign → Type 0
 Lacks [] = Unit {0}
-Lacks (t ∷ ts) = (t ≢ unreduce_word) × Lacks ts
+Lacks (t ∷ ts) = IsOlderWord t × Lacks ts
 
-lacks-all : (ts : List Sign) → All (λ t. t ≢ unreduce_word) ts → Lacks ts
+lacks-all : (ts : List Sign) → All IsOlderWord ts → Lacks ts
 lacks-all [] h = tt
-lacks-all (t ∷ ts) h = (All-head (λ t. t ≢ unreduce_word) t ts h, lacks-all ts (All-tail (λ t. t ≢ unreduce_word) t ts h))
+lacks-all (t ∷ ts) h = (All-head IsOlderWord t ts h, lacks-all ts (All-tail IsOlderWord t ts h))
 
-number-other : (n : ℕ) → Number n ≢ unreduce_word
-number-other n e = let h : Number n ≡ Act unreduce_verb = e ∙ unreduce-is in cc
+number-other : (n : ℕ) → IsOlderWord (Number n)
+number-other n = (
+  (λ e. (let h : Number n ≡ Act unreduce_verb = e ∙ unreduce-is in cc)),
+  (λ e. (let h : Number n ≡ Ident (codes "treecast") = e ∙ treecast-is in cc)),
+  (λ e. (let h : Number n ≡ Ident (codes "untreecast") = e ∙ untreecast-is in cc)),
+)
 
-key-other : (k : Keyword) → Key k ≢ unreduce_word
-key-other k e = let h : Key k ≡ Act unreduce_verb = e ∙ unreduce-is in cc
+key-other : (k : Keyword) → IsOlderWord (Key k)
+key-other k = (
+  (λ e. (let h : Key k ≡ Act unreduce_verb = e ∙ unreduce-is in cc)),
+  (λ e. (let h : Key k ≡ Ident (codes "treecast") = e ∙ treecast-is in cc)),
+  (λ e. (let h : Key k ≡ Ident (codes "untreecast") = e ∙ untreecast-is in cc)),
+)
 
 lacks-numbers : (n m : ℕ) (ts : List Sign) → Lacks ts → Lacks (replicate n (Number m) ++ ts)
 lacks-numbers zero m ts h = h
@@ -83,7 +112,7 @@ same-tokens text [] ts e h = e
 same-tokens text (u ∷ us) [] e h = cc
 same-tokens text (u ∷ us) (t ∷ ts) e h =
     let is : sign_of version.One text u ≡ t = head-same e in
-    let other : sign_of version.One text u ≢ unreduce_word = λ k. h.0 (sym is ∙ k) in
+    let other : IsOlderWord (sign_of version.One text u) = subst IsOlderWord (sym is) h.0 in
     ap (λ (x : Sign). x ∷ map (sign_of version.Two text) us) (same-token u.kind (bytes_of text u) other ∙ is) ∙ ap (λ z. t ∷ z) (same-tokens text us ts (tail-same e) h.1)
 
 -- ---- the version that a text names

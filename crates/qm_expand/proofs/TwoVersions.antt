@@ -3,7 +3,6 @@ use Rattle.std.proofs.Common.{◌≡◌, ◌∙◌, ℕ, zero, suc, ◌+◌, Boo
 use Rattle.std.specs.Prelude.{slice_index, unsigned_abs}
 use Rattle.qm_instr.specs.declared.Instr.{Instr}
 use Rattle.qm_instr.specs.Programs.{Programs, rank_of, with_instruction, instruction_total}
-use Rattle.qm_collect.specs.Table.{instructions_at}
 use Rattle.qm_parse.specs.declared.words.Operand.{Operand}
 use Rattle.qm_parse.specs.Words.{operands_of}
 use Rattle.qm_parse.specs.Nodes.{add_what, mul_what}
@@ -15,7 +14,7 @@ use Rattle.qm_expand.specs.Steps.{Outcome, ◌>>=◌, UnknownName, OutOfRange, T
 use Rattle.qm_expand.specs.Values.{Scope, Values, with_value, ranged, known, computed, result_of, bound, limit, within, expr_value, adds_value, term_value, muls_value, prim_value, operands_values, call_values}
 use Rattle.qm_expand.specs.Table.{made, gate_made}
 use Rattle.qm_expand.specs.Drafts.{Draft, draft, has_operands, counted, with_made, with_each, with_turn, with_outcomes}
-use Rattle.qm_expand.specs.Expansion.{Lines, can_be_called, instructions_made, with_made_by, under, done, done_under, each_turn, turn_count, inside, body_expanded, stmt_expanded, rank_scope, rank_expanded, same_expanded, each_expanded, blocks_expanded, with_tapes}
+use Rattle.qm_expand.specs.Expansion.{Lines, can_be_called, part_of, instructions_made, with_made_by, under, done, done_under, each_turn, turn_count, inside, body_expanded, stmt_expanded, rank_scope, rank_expanded, same_expanded, each_expanded, blocks_expanded, with_tapes}
 
 -- ---- values
 -- the second is the same, where the first has no fault
@@ -97,7 +96,7 @@ module _ (l k : ℕ) (s : Scope) where
   instructions-follow : (m : Operation) → Follows (instructions_made l s m) (instructions_made k s m)
   instructions-follow (operation.Core i) = refl
   instructions-follow (operation.Shared c) =
-      follows-if (can_be_called s.ranks c) (Ok (instructions_at c s.rank s.ranks)) (Ok (instructions_at c s.rank s.ranks)) (Err (OutOfRange l)) (Err (OutOfRange k)) refl tt
+      follows-if (can_be_called s.ranks c) (Ok (part_of c s.rank s.ranks)) (Ok (part_of c s.rank s.ranks)) (Err (OutOfRange l)) (Err (OutOfRange k)) refl tt
   instructions-follow operation.Nothing = refl
 
 -- ---- drafts

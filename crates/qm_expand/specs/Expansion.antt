@@ -5,14 +5,16 @@ use Rattle.qm_instr.specs.declared.Gate.{Gate}
 use Rattle.qm_instr.specs.declared.Instr.{Instr}
 use Rattle.qm_instr.specs.declared.Instr.TheVariants as instr
 use Rattle.qm_instr.specs.Programs.{Programs, RankProgram, idle_rank, rank_of}
-use Rattle.qm_collect.specs.declared.Collective.{Collective}
 use Rattle.qm_collect.specs.Table.{instructions_at, root_of, slots_of}
+use Rattle.qm_tree.specs.Trees as tree
 use Rattle.qm_parse.specs.declared.words.Version.{Version}
 use Rattle.qm_parse.specs.declared.words.Version.TheVariants as version
 use Rattle.qm_parse.specs.Words.{version_number}
 use Rattle.qm_parse.specs.Nodes.{head_tokens}
 use Rattle.qm_parse.specs.Trees.{Call, Body, Nothing, Then, Stmt, Do, DoUnder, For, Blocks, ForAll, ForEach, TapeLine, Program}
 use Rattle.qm_parse.specs.Spelling.{expr_signs, stmt_signs, body_signs}
+use Rattle.qm_expand.specs.declared.joint.Joint.{Joint}
+use Rattle.qm_expand.specs.declared.joint.Joint.TheVariants.{Flat, Tree}
 use Rattle.qm_expand.specs.declared.made.Operation.{Operation}
 use Rattle.qm_expand.specs.declared.made.Operation.TheVariants as operation
 use Rattle.qm_expand.specs.Steps.{Outcome, ◌>>=◌, OutOfRange}
@@ -25,15 +27,21 @@ abbrev pub Lines : Type 0
 Lines = ℕ → ℕ
 
 -- ---- instructions
--- a collective's root is one of the ranks, and its slots are ones that a rank may have (its operands were tested one by one before)
-abbrev pub can_be_called : ℕ → Collective → Bool
-can_be_called ranks c = nat_lt (root_of c) ranks && all_below SLOTS (slots_of c)
+-- a call's root is one of the ranks, and a collective's slots are ones that a rank may have (its operands were tested one by one before)
+abbrev pub can_be_called : ℕ → Joint → Bool
+can_be_called ranks (Flat c) = nat_lt (root_of c) ranks && all_below SLOTS (slots_of c)
+can_be_called ranks (Tree c) = nat_lt c.root ranks
+
+-- a rank's part of a call
+abbrev pub part_of : Joint → (rank ranks : ℕ) → List Instr
+part_of (Flat c) rank ranks = instructions_at c rank ranks
+part_of (Tree c) rank ranks = tree.instructions_at c rank ranks
 
 -- the instructions of an operation at a rank
 abbrev pub instructions_made : ℕ → Scope → Operation → Outcome (List Instr)
 instructions_made line s (operation.Core i) = Ok (i ∷ [])
 instructions_made line s (operation.Shared c) =
-    if can_be_called s.ranks c then Ok (instructions_at c s.rank s.ranks) else Err (OutOfRange line)
+    if can_be_called s.ranks c then Ok (part_of c s.rank s.ranks) else Err (OutOfRange line)
 instructions_made line s operation.Nothing = Ok []
 
 -- a gate under a bit

@@ -43,12 +43,16 @@ same_text ranks qubits buffer rest =
     Key keyword.Qmpi ∷ Number 2 ∷ Key keyword.Ranks ∷ Number ranks ∷ Key keyword.Qubits
     ∷ (replicate ranks (Number qubits) ++ Key keyword.Buffer ∷ (replicate ranks (Number buffer) ++ rest))
 
--- the word `unreduce`
-abbrev pub unreduce_word : Sign
-unreduce_word = sign version.One kind.Word (codes "unreduce")
+-- a word, by what it is in version 1
+abbrev pub older_word : List ℕ → Sign
+older_word bytes = sign version.One kind.Word bytes
 
--- the second text is one of version 2 that gives all ranks as many slots and buffers of one size, has no `unreduce`, and is otherwise the
--- first text, of version 1
+-- none of the words that are something else in version 2
+abbrev pub IsOlderWord : Sign → Type 0
+IsOlderWord t = (t ≢ older_word (codes "unreduce")) × (t ≢ older_word (codes "treecast")) × (t ≢ older_word (codes "untreecast"))
+
+-- the second text is one of version 2 that gives all ranks as many slots and buffers of one size, has none of the words `unreduce`,
+-- `treecast` and `untreecast`, and is otherwise the first text, of version 1
 pub record HasSameSizes (one two : List ℕ) : Type 0 where
   pub ranks : ℕ
   pub qubits : ℕ
@@ -56,7 +60,7 @@ pub record HasSameSizes (one two : List ℕ) : Type 0 where
   pub rest : List Sign
   pub older : OnTokens one (λ tokens. written one tokens ≡ older_text ranks qubits buffer rest)
   pub newer : OnTokens two (λ tokens. written two tokens ≡ same_text ranks qubits buffer rest)
-  pub none : All (λ t. t ≢ unreduce_word) rest
+  pub none : All IsOlderWord rest
 
 -- such a text is read as the first one's programs with the version 2
 abbrev pub SameSizes : Type 0

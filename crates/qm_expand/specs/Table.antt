@@ -4,8 +4,11 @@ use Rattle.qm_instr.specs.declared.Gate.{Gate}
 use Rattle.qm_instr.specs.declared.Gate.TheVariants as gate
 use Rattle.qm_instr.specs.declared.Instr.TheVariants as instr
 use Rattle.qm_collect.specs.declared.Collective.TheVariants as collective
+use Rattle.qm_tree.specs.declared.TreeOp.TheVariants.{Cast, Uncast}
+use Rattle.qm_tree.specs.Trees.{call_of}
 use Rattle.qm_parse.specs.declared.words.Action.{Action}
 use Rattle.qm_parse.specs.declared.words.Action.TheVariants as action
+use Rattle.qm_expand.specs.declared.joint.Joint.TheVariants.{Flat, Tree}
 use Rattle.qm_expand.specs.declared.made.Operation.{Operation}
 use Rattle.qm_expand.specs.declared.made.Operation.TheVariants.{Core, Shared, Nothing}
 
@@ -38,11 +41,13 @@ made action.MoveTo s w = Core (instr.MoveTo (s 0) (w 0) (w 1))
 made action.MoveFrom s w = Core (instr.MoveFrom (s 0) (w 0) (w 1))
 made action.ReachTo s w = Core (instr.ReachTo (s 0) (w 0) (w 1))
 made action.ReachFrom s w = Core (instr.ReachFrom (s 0) (w 0) (w 1))
-made action.Bcast s w = Shared (collective.Bcast (s 0) (w 0) (w 1))
-made action.Unbcast s w = Shared (collective.Unbcast (s 0) (w 0) (w 1))
-made action.Scatter s w = Shared (collective.Scatter (s 0) (w 0) (w 1))
-made action.Gather s w = Shared (collective.Gather (s 0) (w 0) (w 1))
-made action.Unscatter s w = Shared (collective.Unscatter (s 0) (w 0) (w 1))
-made action.Ungather s w = Shared (collective.Ungather (s 0) (w 0) (w 1))
-made action.Reduce s w = Shared (collective.Reduce (s 0) (s 1) (w 0) (w 1))
-made action.Unreduce s w = Shared (collective.Unreduce (s 0) (s 1) (w 0) (w 1))
+made action.Bcast s w = Shared (Flat (collective.Bcast (s 0) (w 0) (w 1)))
+made action.Unbcast s w = Shared (Flat (collective.Unbcast (s 0) (w 0) (w 1)))
+made action.Scatter s w = Shared (Flat (collective.Scatter (s 0) (w 0) (w 1)))
+made action.Gather s w = Shared (Flat (collective.Gather (s 0) (w 0) (w 1)))
+made action.Unscatter s w = Shared (Flat (collective.Unscatter (s 0) (w 0) (w 1)))
+made action.Ungather s w = Shared (Flat (collective.Ungather (s 0) (w 0) (w 1)))
+made action.Reduce s w = Shared (Flat (collective.Reduce (s 0) (s 1) (w 0) (w 1)))
+made action.Unreduce s w = Shared (Flat (collective.Unreduce (s 0) (s 1) (w 0) (w 1)))
+made action.Treecast s w = Shared (Tree (call_of Cast (s 0) (w 0) (w 1)))
+made action.Untreecast s w = Shared (Tree (call_of Uncast (s 0) (w 0) (w 1)))

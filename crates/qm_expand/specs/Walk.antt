@@ -3,8 +3,6 @@ use Rattle.std.specs.Prelude.{◌≡◌, ℕ, zero, suc, ◌+◌, ◌-◌, min, 
 use Rattle.std.specs.List.{list_all}
 use Rattle.qm_limits.specs.declared.TheConstants.{MOST_RANKS, SLOTS, MOST_HALVES, MOST_OUTCOMES}
 use Rattle.qm_instr.specs.Programs.{Programs, RankProgram, rank_of}
-use Rattle.qm_collect.specs.declared.Collective.{Collective}
-use Rattle.qm_collect.specs.Table.{instructions_at}
 use Rattle.qm_lex.specs.declared.tokens.Token.{Token}
 use Rattle.qm_parse.specs.declared.tree.Node.{Node}
 use Rattle.qm_parse.specs.declared.tree.What.{What}
@@ -20,13 +18,14 @@ use Rattle.qm_parse.specs.Nodes.{program_nodes}
 use Rattle.qm_expand.specs.Reading.{lines_of}
 use Rattle.qm_expand.specs.declared.ReadError.{ReadError}
 use Rattle.qm_expand.specs.declared.ReadError.TheVariants as errors
+use Rattle.qm_expand.specs.declared.joint.Joint.{Joint}
 use Rattle.qm_expand.specs.declared.made.Operation.{Operation}
 use Rattle.qm_expand.specs.declared.made.Operation.TheVariants as operation
 use Rattle.qm_expand.specs.Steps.{Outcome, ◌>>=◌, UnknownName, OutOfRange, TooMany}
 use Rattle.qm_expand.specs.Values.{Scope, Values, no_values, with_value, ranged, named, computed, limit, within}
 use Rattle.qm_expand.specs.Table.{made, gate_made}
 use Rattle.qm_expand.specs.Drafts.{Draft, draft, with_each, with_turn, with_outcomes}
-use Rattle.qm_expand.specs.Expansion.{Lines, can_be_called, with_made_by, under, each_turn, turn_count, inside, rank_scope, sized_programs}
+use Rattle.qm_expand.specs.Expansion.{Lines, can_be_called, part_of, with_made_by, under, each_turn, turn_count, inside, rank_scope, sized_programs}
 
 -- what a call answers: a value, the first fault, or want of memory
 abbrev pub Fails : {A : Type 0} → ReadError → Outcome A → Type 0
@@ -160,9 +159,9 @@ abbrev pub called : Words → Scope → Node → List Node → Draft → Outcome
 called words s node own d = called_by words (words.lines node.token) s own d (words.verbs node.token)
 
 -- ---- collectives
--- a rank's part of a collective, where so many ranks can call it
-abbrev pub shared : ℕ → ℕ → ℕ → Collective → Draft → Outcome Draft
-shared line rank ranks c d = if can_be_called ranks c then with_each line rank (instructions_at c rank ranks) d else Err (OutOfRange line)
+-- a rank's part of a call, where so many ranks can make it
+abbrev pub shared : ℕ → ℕ → ℕ → Joint → Draft → Outcome Draft
+shared line rank ranks c d = if can_be_called ranks c then with_each line rank (part_of c rank ranks) d else Err (OutOfRange line)
 
 -- ---- sizes and tapes
 -- the version with a number

@@ -5,9 +5,9 @@ ghost use Rattle.qm_instr.specs.Programs.{instruction_total};
 
 use crate::ReadError;
 use crate::head::{Head, size_of};
+use crate::joint::{Joint, part_at, part_len};
 use crate::ranges::{can_be_called, has_operands};
 use crate::values::Scope;
-use qm_collect::{Collective, count, instr_at};
 use qm_instr::{Input, Instr};
 use qm_limits::{MOST_INSTRUCTIONS, MOST_OUTCOMES, MOST_TURNS};
 use std::alloc::{AllocError, Global};
@@ -69,13 +69,8 @@ impl Draft {
         Ok(())
     }
 
-    /// Appends the instructions of a collective.
-    pub(crate) fn share(
-        &mut self,
-        line: u32,
-        scope: Scope,
-        which: Collective,
-    ) -> Result<(), ReadError>
+    /// Appends a rank's instructions in a call that every rank writes.
+    pub(crate) fn share(&mut self, line: u32, scope: Scope, which: Joint) -> Result<(), ReadError>
         requires rank { scope.rank < scope.ranks }
         requires ranks { scope.ranks ≡ length self.old.input.ranks }
         ensures answers { Answers (λ _. draft_seen self.new) result
@@ -86,8 +81,8 @@ impl Draft {
         if !can_be_called(ranks, which) {
             return Err(ReadError::OutOfRange { line });
         }
-        for j in 0..count(which, scope.rank, ranks) {
-            if let Some(i) = instr_at(which, scope.rank, ranks, j) {
+        for j in 0..part_len(which, scope.rank, ranks) {
+            if let Some(i) = part_at(which, scope.rank, ranks, j) {
                 self.add(line, scope.rank, i)?;
             }
         }

@@ -12,8 +12,8 @@ pub fn some_reading()
     ensures { SomeReading }
 {}
 
-/// A text of version 2 that gives all ranks as many slots and buffers of one size, that has no `unreduce`, and that is otherwise a text of
-/// version 1, is read as that text's programs with the version 2.
+/// A text of version 2 that gives all ranks as many slots and buffers of one size, that has none of the words `unreduce`, `treecast` and
+/// `untreecast`, and that is otherwise a text of version 1, is read as that text's programs with the version 2.
 pub fn same_sizes_law()
     ensures { SameSizes }
 {}

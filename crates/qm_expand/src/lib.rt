@@ -3,6 +3,7 @@
 
 mod draft;
 mod head;
+mod joint;
 mod laws;
 mod made;
 mod operands;
@@ -13,6 +14,7 @@ mod values;
 mod walk;
 mod words;
 
+pub use joint::Joint;
 pub use laws::{one_reading, same_sizes_law, some_reading};
 pub use made::Operation;
 pub use reading::read;

@@ -1,20 +1,25 @@
 //! What the words of instructions and collectives make of their operands.
 
 ghost use Rattle.std.specs.Prelude.{◌≡◌, slice_index};
+ghost use Rattle.qm_tree.specs.Trees.{call_of};
 ghost use Rattle.qm_expand.specs.Table.{gate_made, made};
+ghost use Rattle.qm_expand.specs.declared.joint.Joint.TheVariants.{Flat, Tree};
+ghost use Rattle.qm_expand.specs.declared.made.Operation.TheVariants.{Shared};
 
+use crate::joint::Joint;
 use crate::operands::Operands;
 use qm_collect::Collective;
 use qm_instr::{Gate, Instr};
 use qm_parse::Action;
+use qm_tree::{TreeCall, TreeOp};
 
 /// What a written instruction or collective stands for, once its operands have values: what its word makes of them.
 #[derive(Clone, Copy, Debug, PartialEq, Eq)]
 pub enum Operation {
     /// One instruction of the rank in whose body it stands.
     Core(Instr),
-    /// A collective: the rank does the instructions that are its own part of it.
-    Shared(Collective),
+    /// A call that every rank writes: the rank does the instructions that are its own part of it.
+    Shared(Joint),
     /// Nothing by itself. A `when` is so: it makes an instruction only together with the gate that follows it.
     Nothing,
 }
@@ -66,25 +71,41 @@ pub(crate) fn make(action: Action, operands: &Operands) -> Operation
             from: peer,
             tag,
         }),
-        Action::Bcast => Operation::Shared(Collective::Bcast { q, root: peer, tag }),
-        Action::Unbcast => Operation::Shared(Collective::Unbcast { q, root: peer, tag }),
-        Action::Scatter => Operation::Shared(Collective::Scatter { q, root: peer, tag }),
-        Action::Gather => Operation::Shared(Collective::Gather { q, root: peer, tag }),
-        Action::Unscatter => Operation::Shared(Collective::Unscatter { q, root: peer, tag }),
-        Action::Ungather => Operation::Shared(Collective::Ungather { q, root: peer, tag }),
-        Action::Reduce => Operation::Shared(Collective::Reduce {
+        Action::Bcast => flat(Collective::Bcast { q, root: peer, tag }),
+        Action::Unbcast => flat(Collective::Unbcast { q, root: peer, tag }),
+        Action::Scatter => flat(Collective::Scatter { q, root: peer, tag }),
+        Action::Gather => flat(Collective::Gather { q, root: peer, tag }),
+        Action::Unscatter => flat(Collective::Unscatter { q, root: peer, tag }),
+        Action::Ungather => flat(Collective::Ungather { q, root: peer, tag }),
+        Action::Reduce => flat(Collective::Reduce {
             q,
             t,
             root: peer,
             tag,
         }),
-        Action::Unreduce => Operation::Shared(Collective::Unreduce {
+        Action::Unreduce => flat(Collective::Unreduce {
             q,
             t,
             root: peer,
             tag,
         }),
+        Action::Treecast => tree(TreeOp::Cast, q, peer, tag),
+        Action::Untreecast => tree(TreeOp::Uncast, q, peer, tag),
     }
+}
+
+/// A collective.
+fn flat(which: Collective) -> Operation
+    ensures { result ≡ Shared (Flat which) }
+{
+    Operation::Shared(Joint::Flat(which))
+}
+
+/// A collective along a tree.
+fn tree(op: TreeOp, q: u8, root: u16, tag: u16) -> Operation
+    ensures { result ≡ Shared (Tree (call_of op q root tag)) }
+{
+    Operation::Shared(Joint::Tree(TreeCall { op, q, root, tag }))
 }
 
 /// The gate of a word, if it is a gate's.

@@ -4,7 +4,9 @@ ghost use Rattle.std.specs.Prelude.{◌≡◌, IsTrue};
 ghost use Rattle.qm_instr.specs.Operands.{HasOperands, gate_slots};
 ghost use Rattle.qm_expand.specs.Drafts.{all_below, has_operands};
 ghost use Rattle.qm_expand.specs.Expansion.{can_be_called};
+ghost use Rattle.qm_expand.specs.declared.joint.Joint.TheVariants.{Flat};
 
+use crate::joint::Joint;
 use qm_collect::Collective;
 use qm_instr::{Gate, Instr};
 use qm_limits::{BITS, SLOTS};
@@ -43,9 +45,19 @@ fn has_slots(qubits: u8, g: Gate) -> bool
     }
 }
 
-/// Whether a collective's root is one of the ranks, and its slots are below [`SLOTS`].
-pub(crate) fn can_be_called(ranks: u16, which: Collective) -> bool
+/// Whether so many ranks can make a call: its root is one of them, and a collective's slots are below [`SLOTS`].
+pub(crate) fn can_be_called(ranks: u16, which: Joint) -> bool
     ensures { result ≡ can_be_called ranks which }
+{
+    match which {
+        Joint::Flat(call) => fits(ranks, call),
+        Joint::Tree(call) => call.root < ranks,
+    }
+}
+
+/// Whether a collective's root is one of the ranks, and its slots are below [`SLOTS`].
+fn fits(ranks: u16, which: Collective) -> bool
+    ensures { result ≡ can_be_called ranks (Flat which) }
 {
     match which {
         Collective::Bcast { q, root, .. }

@@ -15,7 +15,7 @@ use Rattle.qm_parse.specs.Trees.{Expr, Sum, NoAdd, Product, NoMul, Num, Call, Bo
 use Rattle.qm_gen.specs.declared.GenKind.{GenKind}
 use Rattle.qm_gen.specs.declared.GenKind.TheVariants.{Ring, Ghz, Parity}
 use Rattle.qm_seed.specs.Seeds.{Words}
-use Rattle.qm_gen.specs.Outcomes.{skipped, outcomes}
+use Rattle.qm_gen.specs.Outcomes.{words_past, outcomes}
 use Rattle.qm_gen.specs.Sizes.{ranks_of}
 use Rattle.qm_gen.specs.Made.{Tape, tapes, children, numbers}
 
@@ -142,7 +142,7 @@ tape_lines_in own rank (m ∷ ms) = record { own = own; rank = rank; outcomes = 
 
 abbrev pub drawn_tapes : List Tape → Words → List TapeLine
 drawn_tapes [] w = []
-drawn_tapes (t ∷ ts) w = tape_lines_in t.own t.rank (outcomes t.len w) ++ drawn_tapes ts (skipped t.len w)
+drawn_tapes (t ∷ ts) w = tape_lines_in t.own t.rank (outcomes t.len w) ++ drawn_tapes ts (words_past t.len w)
 
 abbrev pub made_tree : GenKind → ℕ → Words → Program
 made_tree kind size w = record {

@@ -2,14 +2,14 @@
 use Rattle.std.proofs.Common.{◌≡◌, ◌≢◌, ℕ, zero, suc, Bool, List, [], ◌∷◌, ◌++◌, refl, ap, ◌∙◌, sym, subst, append_assoc}
 use Rattle.std.specs.Prelude.{if◌then◌else◌, codes, decimal}
 use Rattle.qm_seed.specs.Seeds.{Words, words_after}
-use Rattle.qm_gen.specs.Outcomes.{skipped, outcome_of, outcomes, outcome_digit, outcome_digits}
+use Rattle.qm_gen.specs.Outcomes.{words_past, outcome_of, outcomes, outcome_digit, outcome_digits}
 use Rattle.qm_gen.specs.Made.{Lines, Tape, lines_text, tape_lines, drawn_lines, words_left}
 use Rattle.qm_gen.proofs.LineLemmas.{lines_text-append}
 
 -- a text, the digits of the outcomes that are still to be drawn, and the words behind them, are these
 pub record Draws (text : List ℕ) (words : Words) (n : ℕ) (whole : List ℕ) (rest : Words) : Type 0 where
   pub digits : text ++ outcome_digits (outcomes n words) ≡ whole
-  pub drawn : skipped n words ≡ rest
+  pub drawn : words_past n words ≡ rest
 
 pub draws-next : (text new : List ℕ) (v w : Words) (word m n : ℕ) (whole : List ℕ) (rest : Words) → Draws text v n whole rest → n ≡ suc m → word ≡ v 0 → w ≡ words_after v → new ≡ text ++ outcome_digit (outcome_of word) ∷ [] → Draws new w m whole rest
 draws-next text new v w word m n whole rest d one first after is =
@@ -19,7 +19,7 @@ draws-next text new v w word m n whole rest d one first after is =
     let there : new ++ more ≡ whole = ap (λ t. t ++ more) (is ∙ ap (λ k. text ++ outcome_digit (outcome_of k) ∷ []) first) ∙ joined in
     record {
       digits = subst (λ (x : Words). new ++ outcome_digits (outcomes m x) ≡ whole) (sym after) there;
-      drawn = subst (λ (x : Words). skipped m x ≡ rest) (sym after) was.drawn;
+      drawn = subst (λ (x : Words). words_past m x ≡ rest) (sym after) was.drawn;
     }
 
 -- a text, the lines of the tapes that are still to be drawn, and the words behind them, are these
@@ -27,10 +27,10 @@ pub record DrawsTapes (text : List ℕ) (words : Words) (ts : List Tape) (whole 
   pub lines : text ++ lines_text (drawn_lines ts words) ≡ whole
   pub drawn : words_left ts words ≡ rest
 
-pub tapes-next : (text new : List ℕ) (v w : Words) (t : Tape) (ts : List Tape) (whole : List ℕ) (rest : Words) → DrawsTapes text v (t ∷ ts) whole rest → new ≡ text ++ lines_text (tape_lines t.own t.rank (outcomes t.len v)) → w ≡ skipped t.len v → DrawsTapes new w ts whole rest
+pub tapes-next : (text new : List ℕ) (v w : Words) (t : Tape) (ts : List Tape) (whole : List ℕ) (rest : Words) → DrawsTapes text v (t ∷ ts) whole rest → new ≡ text ++ lines_text (tape_lines t.own t.rank (outcomes t.len v)) → w ≡ words_past t.len v → DrawsTapes new w ts whole rest
 tapes-next text new v w t ts whole rest d is after =
     let line : List ℕ = lines_text (tape_lines t.own t.rank (outcomes t.len v)) in
-    let left : Words = skipped t.len v in
+    let left : Words = words_past t.len v in
     let there : new ++ lines_text (drawn_lines ts left) ≡ whole =
     ap (λ x. x ++ lines_text (drawn_lines ts left)) is
     ∙ append_assoc text line (lines_text (drawn_lines ts left))
@@ -46,8 +46,8 @@ tapes-next text new v w t ts whole rest d is after =
 pub drawn_lines-append : (ts us : List Tape) (w : Words) → drawn_lines (ts ++ us) w ≡ drawn_lines ts w ++ drawn_lines us (words_left ts w)
 drawn_lines-append [] us w = refl
 drawn_lines-append (t ∷ ts) us w =
-    ap (λ x. tape_lines t.own t.rank (outcomes t.len w) ++ x) (drawn_lines-append ts us (skipped t.len w))
-    ∙ sym (append_assoc (tape_lines t.own t.rank (outcomes t.len w)) (drawn_lines ts (skipped t.len w)) (drawn_lines us (words_left ts (skipped t.len w))))
+    ap (λ x. tape_lines t.own t.rank (outcomes t.len w) ++ x) (drawn_lines-append ts us (words_past t.len w))
+    ∙ sym (append_assoc (tape_lines t.own t.rank (outcomes t.len w)) (drawn_lines ts (words_past t.len w)) (drawn_lines us (words_left ts (words_past t.len w))))
 
 -- the line of a tape, piece by piece
 pub tape_written : (text t1 t2 t3 t4 t5 : List ℕ) (own : Bool) (rank n : ℕ) (w : Words) → n ≢ 0 → t1 ≡ text ++ (if own then codes "own " else codes "protocol ") → t2 ≡ t1 ++ decimal rank → t3 ≡ t2 ++ codes " b" → t4 ≡ t3 ++ outcome_digits (outcomes n w) → t5 ≡ t4 ++ 10 ∷ [] → t5 ≡ text ++ lines_text (tape_lines own rank (outcomes n w))

@@ -8,7 +8,7 @@ use Rattle.qm_lex.specs.declared.tokens.TokenKind.{TokenKind}
 use Rattle.qm_lex.specs.declared.tokens.TokenKind.TheVariants.{Word, Number, Symbol}
 use Rattle.qm_lex.specs.Bytes.{is_blank, is_digit, is_letter, is_word_byte, is_symbol, is_comment_byte}
 use Rattle.qm_lex.specs.Pieces.{begins_with}
-use Rattle.qm_lex.specs.Lexing.{with_first, line_after, behind, lexed}
+use Rattle.qm_lex.specs.Lexing.{with_first, line_after, behind, tokens_from}
 use Rattle.qm_parse.specs.declared.words.Version.TheVariants as version
 use Rattle.qm_parse.specs.Signs.{Sign, sign, bytes_of, sign_of}
 
@@ -65,9 +65,9 @@ begins-stops (x ∷ xs) rest = refl
 
 -- what is read behind a front
 abbrev pub lexed_behind : ℕ → ℕ → ℕ → ℕ → List ℕ → Front → Result (List Token) ℕ
-lexed_behind n at line b rest (Skip k) = lexed n (at + (k + 1)) (line_after b line) (drop (k + 1) (b ∷ rest))
+lexed_behind n at line b rest (Skip k) = tokens_from n (at + (k + 1)) (line_after b line) (drop (k + 1) (b ∷ rest))
 lexed_behind n at line b rest (Take kind k) =
-    with_first (record { kind = kind; start = at; stop = at + (k + 1); line = line }) (lexed n (at + (k + 1)) line (drop (k + 1) (b ∷ rest)))
+    with_first (record { kind = kind; start = at; stop = at + (k + 1); line = line }) (tokens_from n (at + (k + 1)) line (drop (k + 1) (b ∷ rest)))
 lexed_behind n at line b rest Nothing = Err line
 
 same_if : {P R : Type 0} (g : P → R) (h : Front → R) (a b : Bool) (p q : P) (f k : Front) → a ≡ b → g p ≡ h f → g q ≡ h k → g (if a then p else q) ≡ h (if b then f else k)
@@ -77,16 +77,16 @@ same_if {P} {R} g h a b p q f k same d e = by_test b same
     by_test true s = ap (λ (x : Bool). g (if x then p else q)) s ∙ d
     by_test false s = ap (λ (x : Bool). g (if x then p else q)) s ∙ e
 
-lexed-front : (n at line b : ℕ) (xs rest : List ℕ) → lexed (suc n) at line (b ∷ (xs ++ 10 ∷ rest)) ≡ lexed_behind n at line b (xs ++ 10 ∷ rest) (front b xs)
+lexed-front : (n at line b : ℕ) (xs rest : List ℕ) → tokens_from (suc n) at line (b ∷ (xs ++ 10 ∷ rest)) ≡ lexed_behind n at line b (xs ++ 10 ∷ rest) (front b xs)
 lexed-front n at line b xs rest =
     let h : Front → Result (List Token) ℕ = lexed_behind n at line b (xs ++ 10 ∷ rest) in
-    same_if (behind (lexed n) at line b (xs ++ 10 ∷ rest)) h (is_blank b) (is_blank b) _ _ _ _ refl refl
-    (same_if (behind (lexed n) at line b (xs ++ 10 ∷ rest)) h (b == 35) (b == 35) _ _ _ _ refl (ap (λ k. h (Skip k)) (while-stops is_comment_byte xs rest refl))
-    (same_if (behind (lexed n) at line b (xs ++ 10 ∷ rest)) h (is_letter b) (is_letter b) _ _ _ _ refl (ap (λ k. h (Take Word k)) (while-stops is_word_byte xs rest refl))
-    (same_if (behind (lexed n) at line b (xs ++ 10 ∷ rest)) h (is_digit b) (is_digit b) _ _ _ _ refl (ap (λ k. h (Take Number k)) (while-stops is_digit xs rest refl))
-    (same_if (behind (lexed n) at line b (xs ++ 10 ∷ rest)) h (is_symbol b) (is_symbol b) _ _ _ _ refl refl
-    (same_if (behind (lexed n) at line b (xs ++ 10 ∷ rest)) h (b == 46) (b == 46) _ _ _ _ refl
-    (same_if (behind (lexed n) at line b (xs ++ 10 ∷ rest)) h (begins_with 46 (xs ++ 10 ∷ rest)) (begins_with 46 xs) _ _ _ _ (begins-stops xs rest) refl refl) refl)))))
+    same_if (behind (tokens_from n) at line b (xs ++ 10 ∷ rest)) h (is_blank b) (is_blank b) _ _ _ _ refl refl
+    (same_if (behind (tokens_from n) at line b (xs ++ 10 ∷ rest)) h (b == 35) (b == 35) _ _ _ _ refl (ap (λ k. h (Skip k)) (while-stops is_comment_byte xs rest refl))
+    (same_if (behind (tokens_from n) at line b (xs ++ 10 ∷ rest)) h (is_letter b) (is_letter b) _ _ _ _ refl (ap (λ k. h (Take Word k)) (while-stops is_word_byte xs rest refl))
+    (same_if (behind (tokens_from n) at line b (xs ++ 10 ∷ rest)) h (is_digit b) (is_digit b) _ _ _ _ refl (ap (λ k. h (Take Number k)) (while-stops is_digit xs rest refl))
+    (same_if (behind (tokens_from n) at line b (xs ++ 10 ∷ rest)) h (is_symbol b) (is_symbol b) _ _ _ _ refl refl
+    (same_if (behind (tokens_from n) at line b (xs ++ 10 ∷ rest)) h (b == 46) (b == 46) _ _ _ _ refl
+    (same_if (behind (tokens_from n) at line b (xs ++ 10 ∷ rest)) h (begins_with 46 (xs ++ 10 ∷ rest)) (begins_with 46 xs) _ _ _ _ (begins-stops xs rest) refl refl) refl)))))
 
 -- ---- and what stands there lies in the line
 unfoldable pub IsWithin : Front → ℕ → Type 0
@@ -118,7 +118,7 @@ front-within b xs =
 -- from a place in the whole text on it has tokens with these signs
 pub record IsLexed (whole : List ℕ) (m at line : ℕ) (text : List ℕ) (ss : List Sign) : Type 0 where
   pub tokens : List Token
-  pub lexes : lexed m at line text ≡ Ok tokens
+  pub lexes : tokens_from m at line text ≡ Ok tokens
   pub signs : map (sign_of version.One whole) tokens ≡ ss
 
 unfoldable pub HasSigns : List ℕ → ℕ → List ℕ → List Sign → Type 0

@@ -10,9 +10,9 @@ use Rattle.qm_parse.specs.Words.{bits_word}
 use Rattle.qm_gen.specs.declared.GenKind.{GenKind}
 use Rattle.qm_gen.specs.declared.GenKind.TheVariants.{Ring, Ghz, Parity}
 use Rattle.qm_seed.specs.Seeds.{Words}
-use Rattle.qm_gen.specs.Outcomes.{skipped, outcomes}
+use Rattle.qm_gen.specs.Outcomes.{words_past, outcomes}
 use Rattle.qm_gen.specs.Sizes.{IsSize}
-use Rattle.qm_gen.specs.Made.{Lines, Tape, lines_text, numbered, tape_lines, tapes, drawn_lines, program_lines, made_text}
+use Rattle.qm_gen.specs.Made.{Lines, Tape, lines_text, with_number, tape_lines, tapes, drawn_lines, program_lines, made_text}
 use Rattle.qm_gen.proofs.LineLemmas.{lines_text-append}
 use Rattle.qm_gen.proofs.MadeSigns.{SmallRanks, small-tapes, by_ghz_size}
 use Rattle.qm_gen.proofs.MadeTapes.{length-outcomes}
@@ -35,10 +35,10 @@ IsShort : GenKind → ℕ → Type 0
 IsShort kind size = (list_all is_short (program_lines kind size) && nat_le (length (program_lines kind size)) 100) ≡ true
 
 -- the line that begins a loop
-for-short : (size : ℕ) → size < 2 ^ 64 → nat_le (length (numbered (codes "for i in 0..") size (codes " {"))) 40 ≡ true
+for-short : (size : ℕ) → size < 2 ^ 64 → nat_le (length (with_number (codes "for i in 0..") size (codes " {"))) 40 ≡ true
 for-short size small =
     let d = length-decimal-le 20 size (omega arith) (omega arith) small in
-    le-leb (length (numbered (codes "for i in 0..") size (codes " {"))) 40 (omega (arith, d, length-append (decimal size) (codes " {")))
+    le-leb (length (with_number (codes "for i in 0..") size (codes " {"))) 40 (omega (arith, d, length-append (decimal size) (codes " {")))
 
 program-short : (kind : GenKind) (size : ℕ) → IsSize kind size → IsShort kind size
 unfolding IsShort is_short digits
@@ -71,19 +71,19 @@ tape-length own rank (m ∷ ms) small =
     let d = length-decimal-le 20 rank (omega arith) (omega arith) small in
     let first = word-length own in
     let bits = tail-length (m ∷ ms) in
-    let whole : length (numbered word rank tail) ≡ length word + length (decimal rank) + length tail =
+    let whole : length (with_number word rank tail) ≡ length word + length (decimal rank) + length tail =
     length-append (word ++ decimal rank) tail ∙ ap (λ k. k + length tail) (length-append word (decimal rank))
     in
-    let line : length (lines_text (tape_lines own rank (m ∷ ms))) ≡ length (numbered word rank tail) + 1 = length-append (numbered word rank tail) (10 ∷ []) in
+    let line : length (lines_text (tape_lines own rank (m ∷ ms))) ≡ length (with_number word rank tail) + 1 = length-append (with_number word rank tail) (10 ∷ []) in
     omega arith
 
 drawn-length : (ts : List Tape) (w : Words) → SmallRanks ts → length (lines_text (drawn_lines ts w)) ≤ 40 * length ts + sum_by (λ t. t.len) ts
 drawn-length [] w small = omega arith
 drawn-length (t ∷ ts) w small =
     let first = tape-length t.own t.rank (outcomes t.len w) small.0 in
-    let more = drawn-length ts (skipped t.len w) small.1 in
-    let lines : length (lines_text (drawn_lines (t ∷ ts) w)) ≡ length (lines_text (tape_lines t.own t.rank (outcomes t.len w))) + length (lines_text (drawn_lines ts (skipped t.len w))) =
-    ap length (lines_text-append (tape_lines t.own t.rank (outcomes t.len w)) (drawn_lines ts (skipped t.len w))) ∙ length-append (lines_text (tape_lines t.own t.rank (outcomes t.len w))) (lines_text (drawn_lines ts (skipped t.len w)))
+    let more = drawn-length ts (words_past t.len w) small.1 in
+    let lines : length (lines_text (drawn_lines (t ∷ ts) w)) ≡ length (lines_text (tape_lines t.own t.rank (outcomes t.len w))) + length (lines_text (drawn_lines ts (words_past t.len w))) =
+    ap length (lines_text-append (tape_lines t.own t.rank (outcomes t.len w)) (drawn_lines ts (words_past t.len w))) ∙ length-append (lines_text (tape_lines t.own t.rank (outcomes t.len w))) (lines_text (drawn_lines ts (words_past t.len w)))
     in
     omega (arith, lines, length-outcomes t.len w, sum_by-cons (λ (u : Tape). u.len) t ts)
 

@@ -18,7 +18,7 @@ use Rattle.qm_parse.specs.Faults.{open_behind, MayOpen, IsShallow}
 use Rattle.qm_gen.specs.declared.GenKind.{GenKind}
 use Rattle.qm_gen.specs.declared.GenKind.TheVariants.{Ring, Ghz, Parity}
 use Rattle.qm_seed.specs.Seeds.{Words}
-use Rattle.qm_gen.specs.Outcomes.{skipped, outcomes}
+use Rattle.qm_gen.specs.Outcomes.{words_past, outcomes}
 use Rattle.qm_gen.specs.Sizes.{ranks_of, IsSize}
 use Rattle.qm_gen.specs.Made.{Tape, tapes, tapes_of, numbers}
 use Rattle.qm_gen.proofs.Deeds.{Deed, Alloc, Gate, Measure, WhenX, MoveTo, MoveFrom, CopyTo, CopyFrom, ReachTo, ReachFrom, stmt_of, num, call, peer_verb, deeds_then, loop_of, Part, part_body, part_of, parts, made_tree, drawn_tapes, tape_lines_in}
@@ -97,7 +97,7 @@ tape-may ranks rank own (m ∷ ms) more low h = (low, h)
 
 tapes-may : (ranks : ℕ) (ts : List Tape) (w : Words) → LowTapes ranks ts → AllByRecursion (λ (t : TapeLine). t.rank < ranks) (drawn_tapes ts w)
 tapes-may ranks [] w low = tt
-tapes-may ranks (t ∷ ts) w low = tape-may ranks t.rank t.own (outcomes t.len w) (drawn_tapes ts (skipped t.len w)) low.0 (tapes-may ranks ts (skipped t.len w) low.1)
+tapes-may ranks (t ∷ ts) w low = tape-may ranks t.rank t.own (outcomes t.len w) (drawn_tapes ts (words_past t.len w)) low.0 (tapes-may ranks ts (words_past t.len w) low.1)
 
 -- ---- the tree
 numbers-length : (from n : ℕ) → length (numbers from n) ≡ n

@@ -9,7 +9,7 @@ use Rattle.qm_parse.specs.Spelling.{each_signs, tape_signs, tapes_signs, program
 use Rattle.qm_gen.specs.declared.GenKind.{GenKind}
 use Rattle.qm_gen.specs.declared.GenKind.TheVariants.{Ring, Ghz, Parity}
 use Rattle.qm_seed.specs.Seeds.{Words}
-use Rattle.qm_gen.specs.Outcomes.{skipped, outcomes}
+use Rattle.qm_gen.specs.Outcomes.{words_past, outcomes}
 use Rattle.qm_gen.specs.Sizes.{ranks_of, IsSize}
 use Rattle.qm_gen.specs.Made.{Tape, numbers, tape_lines, tapes_of, tapes, drawn_lines, program_lines, made_text}
 use Rattle.qm_gen.proofs.TextSigns.{joined, lines_signs, lines_signs-append, HasTokens, lines-tokens}
@@ -33,8 +33,8 @@ pub drawn_signs : (ts : List Tape) (w : Words) → SmallRanks ts → lines_signs
 drawn_signs [] w small = refl
 drawn_signs (t ∷ ts) w small =
     let ms : List Bool = outcomes t.len w in
-    lines_signs-append (tape_lines t.own t.rank ms) (drawn_lines ts (skipped t.len w)) _ _ (one_tape t.own t.rank ms small.0) (drawn_signs ts (skipped t.len w) small.1)
-    ∙ ap Some (sym (tapes_signs-append (tape_lines_in t.own t.rank ms) (drawn_tapes ts (skipped t.len w))))
+    lines_signs-append (tape_lines t.own t.rank ms) (drawn_lines ts (words_past t.len w)) _ _ (one_tape t.own t.rank ms small.0) (drawn_signs ts (words_past t.len w) small.1)
+    ∙ ap Some (sym (tapes_signs-append (tape_lines_in t.own t.rank ms) (drawn_tapes ts (words_past t.len w))))
 
 -- ---- programs
 abbrev pub head_signs : ℕ → List Sign

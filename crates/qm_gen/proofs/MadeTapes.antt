@@ -8,7 +8,7 @@ use Rattle.qm_parse.specs.Trees.{TapeLine}
 use Rattle.qm_expand.specs.Drafts.{with_outcomes}
 use Rattle.qm_expand.specs.Expansion.{with_tapes}
 use Rattle.qm_seed.specs.Seeds.{Words, words_after}
-use Rattle.qm_gen.specs.Outcomes.{skipped, outcomes}
+use Rattle.qm_gen.specs.Outcomes.{words_past, outcomes}
 use Rattle.qm_gen.specs.Made.{Tape}
 use Rattle.qm_gen.proofs.Deeds.{tape_lines_in, drawn_tapes, Part}
 use Rattle.qm_gen.proofs.Expanded.{program_of, repeated-none}
@@ -23,7 +23,7 @@ length-outcomes (suc n) w = ap suc (length-outcomes n (words_after w))
 -- all tapes at the ends of those of their ranks, also those without outcomes
 abbrev pub all_tapes : List Tape → Words → Programs → Programs
 all_tapes [] w p = p
-all_tapes (t ∷ ts) w p = all_tapes ts (skipped t.len w) (with_outcomes t.own t.rank (outcomes t.len w) p)
+all_tapes (t ∷ ts) w p = all_tapes ts (words_past t.len w) (with_outcomes t.own t.rank (outcomes t.len w) p)
 
 no_outcomes : (own : Bool) (rank : ℕ) (p : Programs) → with_outcomes own rank [] p ≡ p
 no_outcomes true rank p =
@@ -40,7 +40,7 @@ one_tape own rank (m ∷ ms) more p = refl
 pub tapes-are : (ts : List Tape) (w : Words) (p : Programs) → with_tapes (drawn_tapes ts w) p ≡ all_tapes ts w p
 tapes-are [] w p = refl
 tapes-are (t ∷ ts) w p =
-    one_tape t.own t.rank (outcomes t.len w) (drawn_tapes ts (skipped t.len w)) p ∙ tapes-are ts (skipped t.len w) (with_outcomes t.own t.rank (outcomes t.len w) p)
+    one_tape t.own t.rank (outcomes t.len w) (drawn_tapes ts (words_past t.len w)) p ∙ tapes-are ts (words_past t.len w) (with_outcomes t.own t.rank (outcomes t.len w) p)
 
 -- ---- tapes leave the instructions as they are
 abbrev pub all_instructions : List RankProgram → List (List Instr)
@@ -57,11 +57,11 @@ tape-instructions false rank ms p = set-instructions p.ranks rank (record (rank_
 
 tapes-instructions : (ts : List Tape) (w : Words) (p : Programs) → all_instructions (all_tapes ts w p).ranks ≡ all_instructions p.ranks
 tapes-instructions [] w p = refl
-tapes-instructions (t ∷ ts) w p = tapes-instructions ts (skipped t.len w) (with_outcomes t.own t.rank (outcomes t.len w) p) ∙ tape-instructions t.own t.rank (outcomes t.len w) p
+tapes-instructions (t ∷ ts) w p = tapes-instructions ts (words_past t.len w) (with_outcomes t.own t.rank (outcomes t.len w) p) ∙ tape-instructions t.own t.rank (outcomes t.len w) p
 
 tapes-version : (ts : List Tape) (w : Words) (p : Programs) → (all_tapes ts w p).version ≡ p.version
 tapes-version [] w p = refl
-tapes-version (t ∷ ts) w p = tapes-version ts (skipped t.len w) (with_outcomes t.own t.rank (outcomes t.len w) p)
+tapes-version (t ∷ ts) w p = tapes-version ts (words_past t.len w) (with_outcomes t.own t.rank (outcomes t.len w) p)
 
 -- ---- the programs of parts, with tapes
 abbrev pub programs_with : ℕ → List Part → List Tape → Words → Programs

@@ -11,10 +11,9 @@ use Rattle.qm_lex.specs.Bytes.{is_digit, is_word_byte}
 use Rattle.qm_parse.specs.declared.words.Version.TheVariants as version
 use Rattle.qm_parse.specs.Words.{value_of, bits_word, reserved_of}
 use Rattle.qm_parse.specs.declared.words.Keyword.TheVariants as keyword
-use Rattle.qm_parse.specs.declared.words.Mark.TheVariants as mark
-use Rattle.qm_parse.specs.Signs.{Sign, Number, Key, Ident, Symbol, word_sign, sign}
+use Rattle.qm_parse.specs.Signs.{Number, Key, Ident, word_sign, sign}
 use Rattle.qm_parse.specs.Spelling.{tape_signs}
-use Rattle.qm_gen.specs.Made.{numbered}
+use Rattle.qm_gen.specs.Made.{with_number}
 use Rattle.qm_gen.proofs.LineSigns.{Take, front, with_sign, behind_front, line_signs}
 
 -- ---- numbers
@@ -143,17 +142,8 @@ outcomes_signs k ms =
 
 -- ---- lines
 -- the line of a tape
-pub tape_line_signs : (own : Bool) (rank : ℕ) (ms : List Bool) → rank < 2 ^ 64 → line_signs 12 (numbered (if own then codes "own " else codes "protocol ") rank (codes " " ++ bits_word ms)) ≡ Some (tape_signs (record { own = own; rank = rank; outcomes = ms }))
+pub tape_line_signs : (own : Bool) (rank : ℕ) (ms : List Bool) → rank < 2 ^ 64 → line_signs 12 (with_number (if own then codes "own " else codes "protocol ") rank (codes " " ++ bits_word ms)) ≡ Some (tape_signs (record { own = own; rank = rank; outcomes = ms }))
 tape_line_signs true rank ms small =
     ap (with_sign (Key keyword.Own)) (number_signs rank 9 32 (bits_word ms) small refl ∙ ap (with_sign (Number rank)) (outcomes_signs 7 ms))
 tape_line_signs false rank ms small =
     ap (with_sign (Key keyword.Protocol)) (number_signs rank 9 32 (bits_word ms) small refl ∙ ap (with_sign (Number rank)) (outcomes_signs 7 ms))
-
--- the line that begins a loop
-abbrev pub for_signs : ℕ → List Sign
-for_signs size = Key keyword.For ∷ Ident (codes "i") ∷ Key keyword.In ∷ Number 0 ∷ Symbol mark.Dots ∷ Number size ∷ Symbol mark.OpenBrace ∷ []
-
-pub for_line_signs : (size : ℕ) → size < 2 ^ 64 → line_signs 12 (numbered (codes "for i in 0..") size (codes " {")) ≡ Some (for_signs size)
-for_line_signs size small =
-    ap (λ o. with_sign (Key keyword.For) (with_sign (Ident (codes "i")) (with_sign (Key keyword.In) (with_sign (Number 0) (with_sign (Symbol mark.Dots) o)))))
-    (number_signs size 3 32 (codes "{") small refl)

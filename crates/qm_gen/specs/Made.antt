@@ -4,7 +4,7 @@ use Rattle.qm_parse.specs.Words.{bits_word}
 use Rattle.qm_gen.specs.declared.GenKind.{GenKind}
 use Rattle.qm_gen.specs.declared.GenKind.TheVariants.{Ring, Ghz, Parity}
 use Rattle.qm_seed.specs.Seeds.{Words}
-use Rattle.qm_gen.specs.Outcomes.{skipped, outcomes}
+use Rattle.qm_gen.specs.Outcomes.{words_past, outcomes}
 use Rattle.qm_gen.specs.Sizes.{ranks_of}
 
 -- ---- lines
@@ -22,12 +22,12 @@ abbrev pub Appends : List ℕ → List ℕ → Lines → Type 0
 Appends old new ls = new ≡ old ++ lines_text ls
 
 -- a line with a number between two texts
-abbrev pub numbered : List ℕ → ℕ → List ℕ → List ℕ
-numbered before n after = before ++ decimal n ++ after
+abbrev pub with_number : List ℕ → ℕ → List ℕ → List ℕ
+with_number before n after = before ++ decimal n ++ after
 
 -- SIZE turns of a body
 abbrev pub loop : ℕ → Lines → Lines
-loop size body = numbered (codes "for i in 0..") size (codes " {") ∷ (body ++ codes "}" ∷ [])
+loop size body = with_number (codes "for i in 0..") size (codes " {") ∷ (body ++ codes "}" ∷ [])
 
 -- so many numbers from this one on
 abbrev pub numbers : ℕ → ℕ → List ℕ
@@ -42,8 +42,8 @@ ring_body size rank =
     then (codes "alloc 0" ∷ codes "h 0" ∷ codes "t 0"
     ∷ loop size (codes "moveto 0 1 1" ∷ codes "movefrom 0 3 1" ∷ []))
     else loop size
-    (numbered (codes "movefrom 0 ") (rank - 1) (codes " 1")
-    ∷ numbered (codes "moveto 0 ") ((rank + 1) % 4) (codes " 1") ∷ [])
+    (with_number (codes "movefrom 0 ") (rank - 1) (codes " 1")
+    ∷ with_number (codes "moveto 0 ") ((rank + 1) % 4) (codes " 1") ∷ [])
 
 -- ---- ghz: copies of one qubit, down a tree of SIZE ranks
 -- the ranks below a rank in the tree
@@ -52,14 +52,14 @@ children size rank = filter (λ c. nat_lt c size) ((2 * rank + 1) ∷ (2 * rank 
 
 -- a copy to each of these ranks
 abbrev pub copy_lines : List ℕ → Lines
-copy_lines cs = map (λ c. numbered (codes "copyto 0 ") c (codes " 1")) cs
+copy_lines cs = map (λ c. with_number (codes "copyto 0 ") c (codes " 1")) cs
 
 -- each rank but rank 0 takes its copy from the rank above it, and each gives one to the ranks below it
 abbrev pub ghz_body : ℕ → ℕ → Lines
 ghz_body size rank =
     (if rank == 0
     then codes "alloc 0" ∷ codes "h 0" ∷ []
-    else numbered (codes "copyfrom 0 ") ((rank - 1) / 2) (codes " 1") ∷ [])
+    else with_number (codes "copyfrom 0 ") ((rank - 1) / 2) (codes " 1") ∷ [])
     ++ copy_lines (children size rank)
 
 -- ---- parity: rank 0 measures the parity of three qubits, SIZE times
@@ -83,12 +83,12 @@ body_of Parity size rank = parity_body size rank
 -- the block of a rank
 abbrev pub rank_lines : GenKind → ℕ → ℕ → Lines
 rank_lines kind size rank =
-    numbered (codes "rank ") rank [] ∷ (body_of kind size rank ++ codes "end" ∷ [])
+    with_number (codes "rank ") rank [] ∷ (body_of kind size rank ++ codes "end" ∷ [])
 
 -- the head: so many ranks, each with one slot and a buffer of one
 abbrev pub head_lines : ℕ → Lines
 head_lines ranks =
-    codes "qmpi 1" ∷ numbered (codes "ranks ") ranks [] ∷ codes "qubits 1" ∷ codes "buffer 1" ∷ []
+    codes "qmpi 1" ∷ with_number (codes "ranks ") ranks [] ∷ codes "qubits 1" ∷ codes "buffer 1" ∷ []
 
 -- ---- tapes
 -- how many outcomes a rank's own tape has
@@ -133,17 +133,17 @@ tape_word own = if own then codes "own " else codes "protocol "
 abbrev pub tape_lines : Bool → ℕ → List Bool → Lines
 tape_lines own rank [] = []
 tape_lines own rank (m ∷ ms) =
-    numbered (tape_word own) rank (codes " " ++ bits_word (m ∷ ms)) ∷ []
+    with_number (tape_word own) rank (codes " " ++ bits_word (m ∷ ms)) ∷ []
 
 -- the words that are left behind the outcomes of these tapes
 abbrev pub words_left : List Tape → Words → Words
 words_left [] w = w
-words_left (t ∷ ts) w = words_left ts (skipped t.len w)
+words_left (t ∷ ts) w = words_left ts (words_past t.len w)
 
 -- tapes, whose outcomes are drawn in their order
 abbrev pub drawn_lines : List Tape → Words → Lines
 drawn_lines [] w = []
-drawn_lines (t ∷ ts) w = tape_lines t.own t.rank (outcomes t.len w) ++ drawn_lines ts (skipped t.len w)
+drawn_lines (t ∷ ts) w = tape_lines t.own t.rank (outcomes t.len w) ++ drawn_lines ts (words_past t.len w)
 
 -- ---- the text
 -- the lines before those of the tapes

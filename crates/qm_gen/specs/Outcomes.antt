@@ -3,9 +3,9 @@ use Rattle.std.specs.Prelude.{ℕ, zero, suc, ◌%◌, ◌==◌, Bool, if◌then
 use Rattle.qm_seed.specs.Seeds.{Words, words_after}
 
 -- the words after so many
-abbrev pub skipped : ℕ → Words → Words
-skipped zero w = w
-skipped (suc n) w = skipped n (words_after w)
+abbrev pub words_past : ℕ → Words → Words
+words_past zero w = w
+words_past (suc n) w = words_past n (words_after w)
 
 -- the outcome of a word is its lowest bit
 abbrev pub outcome_of : ℕ → Bool

@@ -1,7 +1,7 @@
 //! Lines of a text, with a number in them.
 
 ghost use Rattle.std.specs.Prelude.{◌≡◌, ◌++◌, ◌∷◌, [], decimal, OnOk};
-ghost use Rattle.qm_gen.specs.Made.{Appends, numbered};
+ghost use Rattle.qm_gen.specs.Made.{Appends, with_number};
 
 use itoa::Buffer;
 use std::alloc::AllocError;
@@ -23,7 +23,7 @@ pub(crate) fn push_numbered(
     after: &[u8],
 ) -> Result<(), AllocError>
     ensures { OnOk result (Appends text.old.items text.new.items
-        (numbered before.now number after.now ∷ [])) }
+        (with_number before.now number after.now ∷ [])) }
 {
     text.extend_from_slice(before)?;
     push_number(text, number)?;

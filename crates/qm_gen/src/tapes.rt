@@ -2,7 +2,7 @@
 
 ghost use Rattle.std.specs.Prelude.{◌≡◌, ◌<◌, ◌++◌, OnOk};
 ghost use Rattle.qm_seed.specs.Seeds.{words_of};
-ghost use Rattle.qm_gen.specs.Outcomes.{skipped, outcome_of, outcomes, outcome_digit, outcome_digits};
+ghost use Rattle.qm_gen.specs.Outcomes.{words_past, outcome_of, outcomes, outcome_digit, outcome_digits};
 ghost use Rattle.qm_gen.specs.Sizes.{IsSize, ranks_of};
 ghost use Rattle.qm_gen.specs.Made.{Appends, tape_len, tape_word, tape_lines, rank_tapes, drawn_lines, words_left};
 
@@ -61,7 +61,7 @@ fn push_tape(
 ) -> Result<(), AllocError>
     ensures lines { OnOk result (Appends text.old.items text.new.items
         (tape_lines own rank (outcomes len (words_of words.old)))) }
-    ensures drawn { OnOk result (words_of words.new ≡ skipped len (words_of words.old)) }
+    ensures drawn { OnOk result (words_of words.new ≡ words_past len (words_of words.old)) }
 {
     if len == 0 {
         return Ok(());
@@ -97,7 +97,7 @@ fn digit_of(word: u32) -> u8
 fn push_outcomes(text: &mut Vec<u8>, len: u32, words: &mut SeedWords) -> Result<(), AllocError>
     ensures digits { OnOk result (text.new.items
         ≡ text.old.items ++ outcome_digits (outcomes len (words_of words.old))) }
-    ensures drawn { OnOk result (words_of words.new ≡ skipped len (words_of words.old)) }
+    ensures drawn { OnOk result (words_of words.new ≡ words_past len (words_of words.old)) }
 {
     for _ in 0..len {
         text.push(digit_of(words.draw()))?;

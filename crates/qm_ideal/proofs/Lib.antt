@@ -1,15 +1,15 @@
-pub mod LaneLemmas
-pub mod TableLemmas
-pub mod ActLemmas
-pub mod OneRunLemmas
-pub mod SmallActs
-pub mod WidthLemmas
-pub mod WireTests
-pub mod NumberLemmas
-pub mod OneCircuitLemmas
-pub mod RoomLemmas
+mod LaneLemmas
+mod TableLemmas
+mod ActLemmas
+mod OneRunLemmas
+mod SmallActs
+mod WidthLemmas
+mod WireTests
+mod NumberLemmas
+mod OneCircuitLemmas
+mod RoomLemmas
 pub mod RunBounds
-pub mod MeetingWork
+mod MeetingWork
 pub mod MeetingLemmas
-pub mod LineLemmas
-pub mod MeetingRuns
+mod ShapeLemmas
+mod MeetingRuns

@@ -21,7 +21,7 @@ use Rattle.qm_proto.specs.Model.State.{Part, Tables, with_at, with_lane, no_parc
 use Rattle.qm_proto.proofs.Changes.{by_lane, by_number, with_at-here, with_at-elsewhere}
 use Rattle.qm_proto.proofs.Positions.{all_at_kept, all_stage_kept}
 use Rattle.qm_confluence.specs.Stuck.Shapes.{moves, Shape, shape_of}
-use Rattle.qm_ideal.specs.Meetings.{Stand, has_bits, stand_of, last_set, lanes_after, shape_in, shape_next, is_wanted_at, rule_holds, shape_holds, may_go, gone, go}
+use Rattle.qm_ideal.specs.Meetings.{Stand, has_bits, stand_of, last_set, lanes_after, shape_in, shape_next, is_wanted_at, rule_holds, shape_holds, may_go, stand_past, go}
 use Rattle.qm_confluence.proofs.Stuck.Rendezvous.{one_rank}
 use Rattle.qm_confluence.proofs.Stuck.Shapes.{rows_shapes}
 
@@ -148,7 +148,7 @@ module _ (p : Programs) (t : Tables) (r n : ℕ) (w : Row) where
   stage_r : (k : ℕ) → ((acted).parts k).stage ≡ (t.parts k).stage
   stage_r k = all_stage_kept r k (list_of w.acts) t
 
-  event_done : stand_of (row_tables n r (Some w) t) ≡ gone n (stand_of t) r (Some (shape_of w))
+  event_done : stand_of (row_tables n r (Some w) t) ≡ stand_past n (stand_of t) r (Some (shape_of w))
   unfolding told
   event_done =
       let s = stand_of t in
@@ -156,7 +156,7 @@ module _ (p : Programs) (t : Tables) (r n : ℕ) (w : Row) where
       let v = row_tables n r (Some w) t in
       let more = nat_lt (s.stage r + 1) n in
       let x = part_after_event n (u r) in
-      stands_same (stand_of v) (gone n s r (Some (shape_of w)))
+      stands_same (stand_of v) (stand_past n s r (Some (shape_of w)))
       (fun_ext (by_number (λ k. (v.parts k).at ≡ with_at s.at r (cond more (s.at r) (s.at r + 1)) k) r
       (ap (λ (y : Part). y.at) (with_at-here u r x) ∙ moved_at (nat_lt ((u r).stage + 1) n) (u r)
       ∙ ap₂ (λ i j. cond (nat_lt (i + 1) n) j (j + 1)) (stage_r r) (at_r r) ∙ sym (with_at-here s.at r (cond more (s.at r) (s.at r + 1))))
@@ -169,9 +169,9 @@ module _ (p : Programs) (t : Tables) (r n : ℕ) (w : Row) where
 
 pub next_same : (p : Programs) (t : Tables) (r : ℕ) → stand_of (next_tables p t r) ≡ go (instr_at p) (stand_of t) r
 unfolding shape_in_row
-next_same p t r = by_row (row_next p t r) ∙ ap (gone (events_at (current p t r)) (stand_of t) r) (sym (next_shape p t r))
+next_same p t r = by_row (row_next p t r) ∙ ap (stand_past (events_at (current p t r)) (stand_of t) r) (sym (next_shape p t r))
   where
-    by_row : (o : Option Row) → stand_of (row_tables (events_at (current p t r)) r o t) ≡ gone (events_at (current p t r)) (stand_of t) r (shape_in_row o)
+    by_row : (o : Option Row) → stand_of (row_tables (events_at (current p t r)) r o t) ≡ stand_past (events_at (current p t r)) (stand_of t) r (shape_in_row o)
     by_row None = refl
     by_row (Some w) = event_done p t r (events_at (current p t r)) w
 

@@ -4,7 +4,7 @@ use Rattle.std.proofs.Math.Nat.{pow-succ', pow-le-pow_right}
 use Rattle.std.proofs.lemmas.Option.{slice_get_read}
 use Rattle.qm_instr.specs.Programs.{Programs}
 use Rattle.qm_proto.specs.Model.Ideal.{IdealTables, has_instr}
-use Rattle.qm_ideal.specs.declared.tables.Rank.{Rank}
+use Rattle.qm_ideal.specs.declared.tables.IdealRank.{IdealRank}
 use Rattle.qm_instr.proofs.BitLemmas.{digit_few}
 use Rattle.qm_ideal.specs.OneCircuits.{left_from, no_rank}
 use Rattle.qm_ideal.specs.Views.{end_of, slot_in, bits_in}
@@ -16,12 +16,12 @@ left_from-below p t r (suc n) =
     omega (arith, digit_few (has_instr p t r), pow-succ' 2 n)
 
 -- the ranks at the end are those of the tables
-pub slot_at_end : (ranks : List Rank) (r q : ℕ) → slice_index_or (slice_index_or (map end_of ranks) r no_rank).slots q None ≡ slot_in (slice_get ranks r) q
+pub slot_at_end : (ranks : List IdealRank) (r q : ℕ) → slice_index_or (slice_index_or (map end_of ranks) r no_rank).slots q None ≡ slot_in (slice_get ranks r) q
 slot_at_end [] r q = refl
 slot_at_end (k ∷ ranks) zero q = refl
 slot_at_end (k ∷ ranks) (suc r) q = slot_at_end ranks r q
 
-pub bits_at_end : (ranks : List Rank) (r : ℕ) → r < length ranks → (slice_index_or (map end_of ranks) r no_rank).bits ≡ bits_in (slice_get ranks r)
+pub bits_at_end : (ranks : List IdealRank) (r : ℕ) → r < length ranks → (slice_index_or (map end_of ranks) r no_rank).bits ≡ bits_in (slice_get ranks r)
 bits_at_end [] r known = absurd (omega arith)
 bits_at_end (k ∷ ranks) zero known = refl
 bits_at_end (k ∷ ranks) (suc r) known = bits_at_end ranks r (omega (arith, known))
@@ -34,7 +34,7 @@ left_few p t r n left is few =
     omega (arith, is, below, wide)
 
 -- the bits of a rank that was read
-pub bits_read : (ranks : List Rank) (r i : ℕ) (k : Rank) → i ≡ r → r < length ranks → k ≡ slice_index_or ranks i k
+pub bits_read : (ranks : List IdealRank) (r i : ℕ) (k : IdealRank) → i ≡ r → r < length ranks → k ≡ slice_index_or ranks i k
     → k.bits ≡ (slice_index_or (map end_of ranks) r no_rank).bits
 bits_read ranks r i k at known read =
     let here : slice_get ranks r ≡ Some k = slice_get_read ranks (length ranks) r k refl known (read ∙ ap (λ j. slice_index_or ranks j k) at) in

@@ -4,7 +4,7 @@ use Rattle.qm_instr.specs.Programs.{Programs}
 use Rattle.qm_proto.specs.Model.Ideal as model
 use Rattle.qm_proto.specs.Model.Ideal.{IdealTables, IdealState, has_instr, AllDone}
 use Rattle.qm_ideal.specs.declared.run.Run.{Run}
-use Rattle.qm_ideal.specs.declared.tables.Rank.{Rank}
+use Rattle.qm_ideal.specs.declared.tables.IdealRank.{IdealRank}
 use Rattle.qm_ideal.specs.OneCircuits.{OneView, IsOneCircuit, EndsEarly, left_from, wires_below, wires_in, slot_of}
 use Rattle.qm_ideal.specs.OneRuns.{IsItsEnd}
 use Rattle.qm_ideal.specs.Views.{state_of, tables_of, slots_at, view_of_run, end_of, part_in, bits_in}
@@ -56,7 +56,7 @@ ends_early p s left end is some =
     }
 
 -- ---- or it doesn't
-bits_are : (x : RankProgram) (o : Option Rank) → bits_in o ≡ (part_in x o).bits
+bits_are : (x : RankProgram) (o : Option IdealRank) → bits_in o ≡ (part_in x o).bits
 bits_are x None = refl
 bits_are x (Some k) = refl
 

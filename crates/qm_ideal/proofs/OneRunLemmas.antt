@@ -25,9 +25,6 @@ module _ (p : Programs) where
   state_push [] r s = refl
   state_push (k ∷ rs) r s = state_push rs r (ideal_next p s k)
 
-  pub way_start : IsOnTheWay p (ideal_at_start p)
-  way_start = record { ranks = []; lowest = tt; state = refl }
-
   pub way_next : (s u : IdealState) (r : ℕ) → IsOnTheWay p s → IsLowestIdeal p s.tables r → u ≡ ideal_next p s r → IsOnTheWay p u
   way_next s u r way low is =
       record {

@@ -11,8 +11,8 @@ use Rattle.qm_proto.specs.Model.Ideal.{IdealTables, ideal_part_at_start, ideal_a
 use Rattle.qm_proto.proofs.IdealRuns.{tables_same}
 use Rattle.qm_denot.specs.declared.Wire.{Wire}
 use Rattle.qm_instr.specs.Programs.{Programs, RankProgram, rank_of}
-use Rattle.qm_ideal.specs.declared.tables.Rank.{Rank}
-use Rattle.qm_ideal.specs.Views.{unmoved, part_in, slot_in, parts_at, slots_at}
+use Rattle.qm_ideal.specs.declared.tables.IdealRank.{IdealRank}
+use Rattle.qm_ideal.specs.Views.{rank_at_start, part_in, slot_in, parts_at, slots_at}
 use Rattle.qm_proto.proofs.Changes.{by_lane}
 use Rattle.qm_ideal.specs.declared.steps.Load.{Load}
 use Rattle.qm_ideal.specs.Meanings.{load_meant, load_in}
@@ -59,12 +59,12 @@ used_up n xs past = drop_of_length-le xs past ∙ sym (ap (drop 1) (drop_of_leng
 
 -- ---- at the start
 module _ (x : RankProgram) where
-  start_part : (n r : ℕ) → part_in x (slice_get (replicate n unmoved) r) ≡ ideal_part_at_start x
+  start_part : (n r : ℕ) → part_in x (slice_get (replicate n rank_at_start) r) ≡ ideal_part_at_start x
   start_part zero r = refl
   start_part (suc n) zero = refl
   start_part (suc n) (suc r) = start_part n r
 
-start_slot : (n r q : ℕ) → slot_in (slice_get (replicate n unmoved) r) q ≡ None
+start_slot : (n r q : ℕ) → slot_in (slice_get (replicate n rank_at_start) r) q ≡ None
 start_slot zero r q = refl
 start_slot (suc n) zero q = none 16 q
   where
@@ -74,10 +74,10 @@ start_slot (suc n) zero q = none 16 q
     none (suc k) (suc q) = none k q
 start_slot (suc n) (suc r) q = start_slot n r q
 
-pub start_tables : (p : Programs) (ranks : List Rank) (n : ℕ) (ls : Lane → List Load) → ranks ≡ replicate n unmoved → ls ≡ (λ a. [])
+pub start_tables : (p : Programs) (ranks : List IdealRank) (n : ℕ) (ls : Lane → List Load) → ranks ≡ replicate n rank_at_start → ls ≡ (λ a. [])
     → (let t : IdealTables = record { parts = parts_at p ranks; slots = slots_at ranks; lanes = λ a. map load_meant (ls a) } in t ≡ (ideal_at_start p).tables)
 start_tables p ranks n ls same none =
-    let t : List Rank → (Lane → List Load) → IdealTables = λ k l. record { parts = parts_at p k; slots = slots_at k; lanes = λ a. map load_meant (l a) } in
-    ap (λ k. t k ls) same ∙ ap (t (replicate n unmoved)) none
-    ∙ tables_same (t (replicate n unmoved) (λ a. [])) (ideal_at_start p).tables
+    let t : List IdealRank → (Lane → List Load) → IdealTables = λ k l. record { parts = parts_at p k; slots = slots_at k; lanes = λ a. map load_meant (l a) } in
+    ap (λ k. t k ls) same ∙ ap (t (replicate n rank_at_start)) none
+    ∙ tables_same (t (replicate n rank_at_start) (λ a. [])) (ideal_at_start p).tables
     (λ r. start_part (rank_of p r) n r) (λ r q. start_slot n r q) (λ a. refl)

@@ -10,7 +10,7 @@ use Rattle.qm_denot.specs.Weights.{operands, also}
 use Rattle.qm_denot.specs.Wires.{is_wire}
 use Rattle.qm_denot.proofs.Sets.{same_from_is}
 use Rattle.qm_proto.specs.Model.Ideal.{made_fresh, width_from}
-use Rattle.qm_ideal.specs.Widths.{wire_order, also_lacked}
+use Rattle.qm_ideal.specs.Widths.{wire_order, is_unnamed_with}
 
 -- ---- a wire in the place of another
 abbrev renamed : Wire → Wire → Wire → Wire
@@ -43,20 +43,20 @@ lacks_again nm w v had = by_bool (is_wire w v) refl
     by_bool false e = refl
 
 also_cases : (w : Wire) (ws nm : List Wire) (v : Wire) (b : Bool) → lacks nm w ≡ b
-    → lacks (also (w ∷ nm) ws) v ≡ also_lacked (lacks (w ∷ nm)) ws v → lacks (also nm ws) v ≡ also_lacked (lacks nm) ws v
-    → lacks (cond b (also (w ∷ nm) ws) (also nm ws)) v ≡ also_lacked (λ u. not (is_wire w u) && lacks nm u) ws v
+    → lacks (also (w ∷ nm) ws) v ≡ is_unnamed_with (lacks (w ∷ nm)) ws v → lacks (also nm ws) v ≡ is_unnamed_with (lacks nm) ws v
+    → lacks (cond b (also (w ∷ nm) ws) (also nm ws)) v ≡ is_unnamed_with (λ u. not (is_wire w u) && lacks nm u) ws v
 also_cases w ws nm v true e with_it without = with_it
 also_cases w ws nm v false e with_it without =
-    without ∙ ap (λ f. also_lacked f ws v) (fun_ext (λ u. sym (lacks_again nm w u e)))
+    without ∙ ap (λ f. is_unnamed_with f ws v) (fun_ext (λ u. sym (lacks_again nm w u e)))
 
-also_is : (ws nm : List Wire) (v : Wire) → lacks (also nm ws) v ≡ also_lacked (lacks nm) ws v
+also_is : (ws nm : List Wire) (v : Wire) → lacks (also nm ws) v ≡ is_unnamed_with (lacks nm) ws v
 also_is [] nm v = refl
 also_is (w ∷ ws) nm v = also_cases w ws nm v (lacks nm w) refl (also_is ws (w ∷ nm) v) (also_is ws nm v)
 
 -- ---- the letters so far: the wires that they name, and the width so far against that of the whole
 pub record IsSoWide (lack : Wire → Bool) (live : List Wire) (widest : ℕ) (rest : List Letter) (ends : List Wire) (all : ℕ) : Type 0 where
   pub named : List Wire
-  pub lacked : (v : Wire) → lack v ≡ lacks named v
+  pub is_unnamed : (v : Wire) → lack v ≡ lacks named v
   pub total : max widest (width_from live named rest ends) ≡ all
 
 max_assoc : (a b c : ℕ) → max (max a b) c ≡ max a (max b c)
@@ -64,15 +64,15 @@ max_assoc a b c = omega arith
 
 pub wide_more : (lack lack' : Wire → Bool) (live now live' : List Wire) (widest : ℕ) (l : Letter) (rest : List Letter) (ends : List Wire) (all : ℕ)
     → IsSoWide lack live widest (l ∷ rest) ends all → now ≡ live ++ filter lack (made_fresh l) → live' ≡ live_after l now
-    → ((v : Wire) → lack' v ≡ also_lacked lack (operands l) v) → IsSoWide lack' live' (max widest (length now)) rest ends all
+    → ((v : Wire) → lack' v ≡ is_unnamed_with lack (operands l) v) → IsSoWide lack' live' (max widest (length now)) rest ends all
 wide_more lack lack' live now live' widest l rest ends all was fresh after noted =
     let nm = was.named in
-    let same : lack ≡ lacks nm = fun_ext was.lacked in
+    let same : lack ≡ lacks nm = fun_ext was.is_unnamed in
     let next = live ++ filter (lacks nm) (made_fresh l) in
     let now_is : now ≡ next = fresh ∙ ap (λ f. live ++ filter f (made_fresh l)) same in
     record {
       named = also nm (operands l);
-      lacked = λ v. noted v ∙ ap (λ f. also_lacked f (operands l) v) same ∙ sym (also_is (operands l) nm v);
+      is_unnamed = λ v. noted v ∙ ap (λ f. is_unnamed_with f (operands l) v) same ∙ sym (also_is (operands l) nm v);
       total =
           ap₂ (λ n vs. max (max widest (length n)) (width_from vs (also nm (operands l)) rest ends)) now_is (after ∙ ap (live_after l) now_is)
           ∙ max_assoc widest (length next) (width_from (live_after l next) (also nm (operands l)) rest ends) ∙ was.total;
@@ -81,4 +81,4 @@ wide_more lack lack' live now live' widest l rest ends all was fresh after noted
 pub wide_end : (lack : Wire → Bool) (live : List Wire) (widest : ℕ) (ends : List Wire) (all : ℕ) → IsSoWide lack live widest [] ends all
     → max widest (length live + length (filter lack ends)) ≡ all
 wide_end lack live widest ends all was =
-    ap (λ f. max widest (length live + length (filter f ends))) (fun_ext was.lacked) ∙ was.total
+    ap (λ f. max widest (length live + length (filter f ends))) (fun_ext was.is_unnamed) ∙ was.total

@@ -5,10 +5,10 @@ use Rattle.qm_proto.specs.Model.Ideal as model
 use Rattle.qm_proto.specs.Model.Ideal.{IdealRule, IdealAct}
 use Rattle.qm_ideal.specs.declared.steps.Load as code
 use Rattle.qm_ideal.specs.declared.steps.Load.TheVariants as load
-use Rattle.qm_ideal.specs.declared.steps.Rule.{Rule}
-use Rattle.qm_ideal.specs.declared.steps.Rule.TheVariants as rule
-use Rattle.qm_ideal.specs.declared.steps.Act.{Act}
-use Rattle.qm_ideal.specs.declared.steps.Act.TheVariants as act
+use Rattle.qm_ideal.specs.declared.steps.StepRule.{StepRule}
+use Rattle.qm_ideal.specs.declared.steps.StepRule.TheVariants as rule
+use Rattle.qm_ideal.specs.declared.steps.StepAct.{StepAct}
+use Rattle.qm_ideal.specs.declared.steps.StepAct.TheVariants as act
 
 -- a wire, a bit, or a sign on a lane
 abbrev pub load_meant : code.Load → model.Load
@@ -22,14 +22,14 @@ load_in None = model.Token
 load_in (Some x) = load_meant x
 
 -- what a step waits for
-abbrev pub rule_meant : Rule → IdealRule
+abbrev pub rule_meant : StepRule → IdealRule
 rule_meant rule.Always = model.Always
 rule_meant (rule.Filled a) = model.Filled a
 rule_meant (rule.Engaged a) = model.Engaged a
 rule_meant (rule.Lent a back) = model.Lent a back
 
 -- what a step does to the tables
-abbrev pub act_meant : Act → IdealAct
+abbrev pub act_meant : StepAct → IdealAct
 act_meant act.Counts = model.Counts
 act_meant (act.SlotSet q w) = model.SlotSet q w
 act_meant (act.Puts a x) = model.Puts a (load_meant x)

@@ -66,9 +66,9 @@ abbrev pub may_go : Reader → Stand → ℕ → Bool
 may_go read s r = shape_holds read s (shape_next read s r)
 
 -- after an event of rank r, whose instruction has n of them
-abbrev pub gone : ℕ → Stand → ℕ → Option Shape → Stand
-gone n s r None = s
-gone n s r (Some w) =
+abbrev pub stand_past : ℕ → Stand → ℕ → Option Shape → Stand
+stand_past n s r None = s
+stand_past n s r (Some w) =
     let more = nat_lt (s.stage r + 1) n in
     record {
       at = with_at s.at r (if more then s.at r else s.at r + 1);
@@ -77,7 +77,7 @@ gone n s r (Some w) =
     }
 
 abbrev pub go : Reader → Stand → ℕ → Stand
-go read s r = gone (events_at (read r (s.at r))) s r (shape_next read s r)
+go read s r = stand_past (events_at (read r (s.at r))) s r (shape_next read s r)
 
 -- r is the lowest of n numbers at which f is true
 pub record IsLeast (f : ℕ → Bool) (n r : ℕ) : Type 0 where

@@ -5,40 +5,40 @@ use Rattle.qm_limits.specs.declared.TheConstants.{SLOTS, BITS}
 use Rattle.qm_instr.specs.Programs.{Programs, RankProgram, rank_of}
 use Rattle.qm_proto.specs.Model.Ideal.{IdealPart, IdealTables, IdealState, ideal_part_at_start, width}
 use Rattle.qm_ideal.specs.declared.run.Run.{Run}
-use Rattle.qm_ideal.specs.declared.tables.Rank.{Rank}
+use Rattle.qm_ideal.specs.declared.tables.IdealRank.{IdealRank}
 use Rattle.qm_ideal.specs.declared.tables.Tables.{Tables}
 use Rattle.qm_ideal.specs.Lanes.{lanes_of}
 use Rattle.qm_ideal.specs.Meanings.{load_meant}
 use Rattle.qm_ideal.specs.OneCircuits.{RankEnd, OneView, wires_in}
 
 -- a rank with this program
-abbrev pub part_of : RankProgram → Rank → IdealPart
+abbrev pub part_of : RankProgram → IdealRank → IdealPart
 part_of x k = record { at = k.at; made = k.made; bits = k.bits; own = drop k.used x.own }
 
 -- a rank that there isn't stands at the start of its program
-abbrev pub part_in : RankProgram → Option Rank → IdealPart
+abbrev pub part_in : RankProgram → Option IdealRank → IdealPart
 part_in x None = ideal_part_at_start x
 part_in x (Some k) = part_of x k
 
 -- the ranks of a list, by their programs
-abbrev pub parts_at : Programs → List Rank → ℕ → IdealPart
+abbrev pub parts_at : Programs → List IdealRank → ℕ → IdealPart
 parts_at p ranks r = part_in (rank_of p r) (slice_get ranks r)
 
 -- a rank before its first instruction
-abbrev pub unmoved : Rank
-unmoved = record { at = 0; made = 0; used = 0; bits = replicate BITS false; slots = replicate SLOTS None }
+abbrev pub rank_at_start : IdealRank
+rank_at_start = record { at = 0; made = 0; used = 0; bits = replicate BITS false; slots = replicate SLOTS None }
 
 -- the wires in a rank's slots
-abbrev pub slot_in : Option Rank → ℕ → Option Wire
+abbrev pub slot_in : Option IdealRank → ℕ → Option Wire
 slot_in None q = None
 slot_in (Some k) q = slice_index_or k.slots q None
 
 -- the wires in the slots of a list's ranks
-abbrev pub slots_at : List Rank → ℕ → ℕ → Option Wire
+abbrev pub slots_at : List IdealRank → ℕ → ℕ → Option Wire
 slots_at ranks r q = slot_in (slice_get ranks r) q
 
 -- a rank's bits
-abbrev pub bits_in : Option Rank → List Bool
+abbrev pub bits_in : Option IdealRank → List Bool
 bits_in None = replicate BITS false
 bits_in (Some k) = k.bits
 
@@ -56,7 +56,7 @@ abbrev pub state_of : Programs → Run → IdealState
 state_of p x = record { tables = tables_of p x.tables; circuit = x.letters.items }
 
 -- a rank at the end of a run
-abbrev pub end_of : Rank → RankEnd
+abbrev pub end_of : IdealRank → RankEnd
 end_of k = record { bits = k.bits; slots = k.slots }
 
 -- all ranks at the end of a run

@@ -11,10 +11,10 @@ abbrev pub wire_order : Wire → Wire → Ordering
 wire_order = (wire_ord.ghosts).cmp
 
 -- whether a wire is not among those that were named
-abbrev pub lacked : BTreeSet Wire → Wire → Bool
-lacked named w = not (contains wire_order named w)
+abbrev pub is_unnamed : BTreeSet Wire → Wire → Bool
+is_unnamed named w = not (contains wire_order named w)
 
 -- the same, with these named too
-abbrev pub also_lacked : (Wire → Bool) → List Wire → Wire → Bool
-also_lacked f [] v = f v
-also_lacked f (w ∷ ws) v = also_lacked (λ u. not (is_wire w u) && f u) ws v
+abbrev pub is_unnamed_with : (Wire → Bool) → List Wire → Wire → Bool
+is_unnamed_with f [] v = f v
+is_unnamed_with f (w ∷ ws) v = is_unnamed_with (λ u. not (is_wire w u) && f u) ws v

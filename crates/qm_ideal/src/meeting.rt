@@ -7,12 +7,12 @@ ghost use Rattle.qm_ideal.specs.MeetingRuns.{IsMeetingsEnd};
 ghost use Rattle.qm_proto.specs.Model.Schedules.{RendezvousEnds};
 ghost use Rattle.qm_proto.specs.Model.State.{with_at};
 ghost use Rattle.qm_ideal.specs.Meetings.{IsLeast, Stand, shape_next, is_wanted_at, rule_holds, may_go, go, lanes_after};
-ghost use Rattle.qm_ideal.specs.MeetingViews.{stand_in, line_in, move_meant};
+ghost use Rattle.qm_ideal.specs.MeetingViews.{stand_in, maybe_shape, move_meant};
 ghost use Rattle.qm_ideal.specs.Lanes.{lanes_of};
 
 use crate::lanes::Lanes;
-use crate::lines::{Line, Move, line_at};
 use crate::run::receives;
+use crate::shapes::{EventShape, Move, shape_at};
 use qm_check::Ready;
 use qm_instr::{Input, Instr, Lane, event_count};
 use qm_proto::{Rule, has_event_after};
@@ -20,7 +20,7 @@ use std::alloc::{AllocError, Global};
 
 /// The number of a rank's next instruction, and how many events of it were done.
 #[derive(Clone, Copy)]
-struct Place {
+struct Position {
     at: u32,
     stage: u32,
 }
@@ -28,7 +28,7 @@ struct Place {
 /// Where the ranks stand, and for each parcel of a lane whether it has bits.
 #[derive(Drop)]
 struct Meeting {
-    places: Vec<Place>,
+    positions: Vec<Position>,
     lanes: Lanes<bool>,
 }
 
@@ -37,26 +37,26 @@ impl Meeting {
     fn start(alloc: Global, input: &Input) -> Result<Meeting, AllocError>
         ensures start { IfOk result (λ m. stand_in m
             ≡ record { at = λ r. 0; stage = λ r. 0; lanes = λ a. [] }) }
-        ensures ranks { IfOk result (λ m. length m.places.items ≡ length input.now.ranks) }
+        ensures ranks { IfOk result (λ m. length m.positions.items ≡ length input.now.ranks) }
         ensures in_range { OnOk result (IsInRange input.now) }
     {
-        let mut places = Vec::with_capacity(alloc, usize::from(input.ranks()))?;
+        let mut positions = Vec::with_capacity(alloc, usize::from(input.ranks()))?;
         for _ in 0..input.ranks() {
-            places.push_reserved(Place { at: 0, stage: 0 });
+            positions.push_reserved(Position { at: 0, stage: 0 });
         }
         Ok(Meeting {
-            places,
+            positions,
             lanes: Lanes::start(alloc),
         })
     }
 
     /// The instruction at which a rank stands; none where there is no such rank.
     fn current(&self, input: &Input, rank: u16) -> Option<Instr>
-        requires { length self.now.places.items ≡ length input.now.ranks }
+        requires { length self.now.positions.items ≡ length input.now.ranks }
         ensures { result ≡ instr_at input.now rank ((stand_in self.now).at rank) }
     {
-        match self.places.get(usize::from(rank)) {
-            Some(place) => input.instr(rank, place.at),
+        match self.positions.get(usize::from(rank)) {
+            Some(position) => input.instr(rank, position.at),
             None => None,
         }
     }
@@ -65,15 +65,15 @@ impl Meeting {
     fn stage(&self, rank: u16) -> u32
         ensures { result ≡ (stand_in self.now).stage rank }
     {
-        match self.places.get(usize::from(rank)) {
-            Some(place) => place.stage,
+        match self.positions.get(usize::from(rank)) {
+            Some(position) => position.stage,
             None => 0,
         }
     }
 
     /// How many events the instruction has at which a rank stands.
     fn events(&self, input: &Input, rank: u16) -> u32
-        requires { length self.now.places.items ≡ length input.now.ranks }
+        requires { length self.now.positions.items ≡ length input.now.ranks }
         ensures { result ≡ events_at (instr_at input.now rank ((stand_in self.now).at rank)) }
     {
         match self.current(input, rank) {
@@ -83,19 +83,19 @@ impl Meeting {
     }
 
     /// The event at which a rank stands, where it has one left.
-    fn line(&self, input: &Input, rank: u16) -> Option<Line>
-        requires { length self.now.places.items ≡ length input.now.ranks }
-        ensures { line_in result ≡ shape_next (instr_at input.now) (stand_in self.now) rank }
+    fn shape(&self, input: &Input, rank: u16) -> Option<EventShape>
+        requires { length self.now.positions.items ≡ length input.now.ranks }
+        ensures { maybe_shape result ≡ shape_next (instr_at input.now) (stand_in self.now) rank }
     {
         match self.current(input, rank) {
-            Some(instr) => line_at(rank, instr, self.stage(rank)),
+            Some(instr) => shape_at(rank, instr, self.stage(rank)),
             None => None,
         }
     }
 
     /// Whether a lane's receiver stands at the first event of a receive of it, and it is empty.
     fn is_wanted(&self, input: &Input, lane: Lane) -> bool
-        requires { length self.now.places.items ≡ length input.now.ranks }
+        requires { length self.now.positions.items ≡ length input.now.ranks }
         ensures { result ≡ is_wanted_at (instr_at input.now) (stand_in self.now) lane }
     {
         self.stage(lane.to) == 0
@@ -104,7 +104,7 @@ impl Meeting {
 
     /// Whether what an event waits for is so, where no buffer has room for a pair that isn't wanted.
     fn holds(&self, input: &Input, rule: Rule) -> bool
-        requires { length self.now.places.items ≡ length input.now.ranks }
+        requires { length self.now.positions.items ≡ length input.now.ranks }
         ensures { result ≡ rule_holds (instr_at input.now) (stand_in self.now) rule }
     {
         match rule {
@@ -116,18 +116,18 @@ impl Meeting {
 
     /// Whether a rank is enabled.
     fn is_enabled(&self, input: &Input, rank: u16) -> bool
-        requires { length self.now.places.items ≡ length input.now.ranks }
+        requires { length self.now.positions.items ≡ length input.now.ranks }
         ensures { result ≡ may_go (instr_at input.now) (stand_in self.now) rank }
     {
-        match self.line(input, rank) {
-            Some(line) => self.holds(input, line.rule),
+        match self.shape(input, rank) {
+            Some(shape) => self.holds(input, shape.rule),
             None => false,
         }
     }
 
     /// The lowest enabled rank, where one is.
     fn lowest_enabled(&self, input: &Input) -> Option<u16>
-        requires { length self.now.places.items ≡ length input.now.ranks }
+        requires { length self.now.positions.items ≡ length input.now.ranks }
         ensures { MatchOption result
             ((r : ℕ) → r < length input.now.ranks
             → may_go (instr_at input.now) (stand_in self.now) r ≡ false)
@@ -146,7 +146,7 @@ impl Meeting {
     fn do_move(&mut self, alloc: Global, act: Option<Move>) -> Result<(), AllocError>
         ensures lanes { OnOk result (lanes_of self.new.lanes
             ≡ fold lanes_after (lanes_of self.old.lanes) (map move_meant (option_to_list act))) }
-        ensures places { OnOk result (self.new.places ≡ self.old.places) }
+        ensures positions { OnOk result (self.new.positions ≡ self.old.positions) }
     {
         match act {
             Some(Move::Puts { lane, told }) => self.lanes.put(alloc, lane, told)?,
@@ -159,7 +159,7 @@ impl Meeting {
 
     /// Goes on to the next event of an instruction that has so many.
     fn move_on(&mut self, rank: u16, events: u32)
-        requires known { rank < length self.old.places.items }
+        requires known { rank < length self.old.positions.items }
         requires at { (stand_in self.old).at rank + 1 < 2 ^ 32 }
         requires stage { (stand_in self.old).stage rank + 1 < 2 ^ 32 }
         ensures at { (stand_in self.new).at
@@ -171,39 +171,40 @@ impl Meeting {
             (if nat_lt ((stand_in self.old).stage rank + 1) events
             then (stand_in self.old).stage rank + 1 else 0) }
         ensures lanes { self.new.lanes ≡ self.old.lanes }
-        ensures ranks { length self.new.places.items ≡ length self.old.places.items }
+        ensures ranks { length self.new.positions.items ≡ length self.old.positions.items }
     {
-        let place = &mut self.places[usize::from(rank)];
-        if has_event_after(place.stage, events) {
-            place.stage += 1;
+        let position = &mut self.positions[usize::from(rank)];
+        if has_event_after(position.stage, events) {
+            position.stage += 1;
         } else {
-            place.at += 1;
-            place.stage = 0;
+            position.at += 1;
+            position.stage = 0;
         }
     }
 
     /// Does the next event of a rank. `AllocError` comes from the allocator alone.
     fn step(&mut self, alloc: Global, input: &Input, rank: u16) -> Result<(), AllocError>
-        requires same { length self.old.places.items ≡ length input.now.ranks }
+        requires same { length self.old.positions.items ≡ length input.now.ranks }
         requires known { rank < length input.now.ranks }
         requires at { (stand_in self.old).at rank + 1 < 2 ^ 32 }
         requires stage { (stand_in self.old).stage rank + 1 < 2 ^ 32 }
         ensures did { OnOk result (stand_in self.new
             ≡ go (instr_at input.now) (stand_in self.old) rank) }
-        ensures ranks { OnOk result (length self.new.places.items ≡ length self.old.places.items) }
+        ensures ranks { OnOk result (length self.new.positions.items
+            ≡ length self.old.positions.items) }
     {
-        let Some(line) = self.line(input, rank) else {
+        let Some(shape) = self.shape(input, rank) else {
             return Ok(());
         };
         let events = self.events(input, rank);
-        self.do_move(alloc, line.act)?;
+        self.do_move(alloc, shape.act)?;
         self.move_on(rank, events);
         Ok(())
     }
 
     /// Whether no rank has an event left.
     fn all_ended(&self, input: &Input) -> bool
-        requires { length self.now.places.items ≡ length input.now.ranks }
+        requires { length self.now.positions.items ≡ length input.now.ranks }
         ensures yes { result ≡ true → (r : ℕ) → r < length input.now.ranks
             → is_some (shape_next (instr_at input.now) (stand_in self.now) r) ≡ false }
         ensures no { result ≡ false
@@ -211,7 +212,7 @@ impl Meeting {
             × (is_some (shape_next (instr_at input.now) (stand_in self.now) r) ≡ true) }
     {
         for rank in 0..input.ranks() {
-            if self.line(input, rank).is_some() {
+            if self.shape(input, rank).is_some() {
                 return false;
             }
         }
@@ -221,7 +222,7 @@ impl Meeting {
     /// The run that steps the lowest enabled rank, up to its end. `AllocError` comes from the allocator alone.
     fn of(alloc: Global, input: &Input) -> Result<Meeting, AllocError>
         ensures end { IfOk result (λ m. IsMeetingsEnd input.now (stand_in m)) }
-        ensures ranks { IfOk result (λ m. length m.places.items ≡ length input.now.ranks) }
+        ensures ranks { IfOk result (λ m. length m.positions.items ≡ length input.now.ranks) }
     {
         let mut meeting = Meeting::start(alloc, input)?;
         while let Some(rank) = meeting.lowest_enabled(input) {

@@ -11,7 +11,7 @@ ghost use Rattle.qm_instr.specs.Programs.{IsInRange};
 ghost use Rattle.qm_ideal.specs.OneRuns.{IsItsEnd};
 ghost use Rattle.qm_ideal.specs.Views.{tables_of, state_of};
 
-use crate::steps::{Rule, rule_of, step_of};
+use crate::steps::{StepRule, rule_of, step_of};
 use crate::tables::Tables;
 use qm_denot::Letter;
 use qm_instr::{Input, Instr, Lane, receive_lane, send_lane};
@@ -39,17 +39,17 @@ fn sends(rank: u16, instr: Option<Instr>, lane: Lane) -> bool
 }
 
 /// Whether what a step waits for is so.
-fn holds(input: &Input, tables: &Tables, rule: Rule) -> bool
+fn holds(input: &Input, tables: &Tables, rule: StepRule) -> bool
     requires { length tables.now.ranks.items ≡ length input.now.ranks }
     ensures { result ≡ ideal_holds input.now (tables_of input.now tables.now) (rule_meant rule) }
 {
     match rule {
-        Rule::Always => true,
-        Rule::Filled { lane } => !tables.is_empty(input, lane),
-        Rule::Engaged { lane } => {
+        StepRule::Always => true,
+        StepRule::Filled { lane } => !tables.is_empty(input, lane),
+        StepRule::Engaged { lane } => {
             receives(lane.to, tables.current(input, lane.to), lane) && tables.is_empty(input, lane)
         }
-        Rule::Lent { lane, back } => {
+        StepRule::Lent { lane, back } => {
             sends(lane.from, tables.current(input, lane.from), lane) && tables.is_empty(input, back)
         }
     }

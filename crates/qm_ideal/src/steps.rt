@@ -26,7 +26,7 @@ pub(crate) enum Load {
 
 /// What a step waits for.
 #[derive(Clone, Copy)]
-pub(crate) enum Rule {
+pub(crate) enum StepRule {
     /// Nothing.
     Always,
     /// The lane isn't empty.
@@ -39,7 +39,7 @@ pub(crate) enum Rule {
 
 /// An act of a step.
 #[derive(Clone, Copy)]
-pub(crate) enum Act {
+pub(crate) enum StepAct {
     /// One wire more is counted.
     Counts,
     /// Slot `q` is filled with a wire, or emptied.
@@ -56,39 +56,40 @@ pub(crate) enum Act {
 
 /// The letters and the acts of a step, each in their order.
 #[derive(Clone, Copy)]
-pub(crate) struct Step {
+pub(crate) struct StepWork {
     pub(crate) letters: Few<Letter>,
-    pub(crate) acts: Few<Act>,
+    pub(crate) acts: Few<StepAct>,
 }
 
 /// What the step of an instruction of a rank waits for.
-pub(crate) fn rule_of(rank: u16, instr: Instr) -> Rule
-    ensures { (p : Programs) (t : IdealTables) → (ideal_row_of p t rank instr).rule ≡ rule_meant result }
+pub(crate) fn rule_of(rank: u16, instr: Instr) -> StepRule
+    ensures { (p : Programs) (t : IdealTables)
+        → (ideal_row_of p t rank instr).rule ≡ rule_meant result }
 {
     match instr {
-        Instr::RecvBit { from, tag, .. } => Rule::Filled {
+        Instr::RecvBit { from, tag, .. } => StepRule::Filled {
             lane: Lane::new(from, rank, Kind::Bit, tag),
         },
-        Instr::CopyFrom { from, tag, .. } => Rule::Filled {
+        Instr::CopyFrom { from, tag, .. } => StepRule::Filled {
             lane: Lane::new(from, rank, Kind::Copy, tag),
         },
-        Instr::UndoTo { to, tag, .. } => Rule::Engaged {
+        Instr::UndoTo { to, tag, .. } => StepRule::Engaged {
             lane: Lane::new(rank, to, Kind::Undo, tag),
         },
-        Instr::UndoFrom { from, tag, .. } => Rule::Filled {
+        Instr::UndoFrom { from, tag, .. } => StepRule::Filled {
             lane: Lane::new(from, rank, Kind::Undo, tag),
         },
-        Instr::MoveFrom { from, tag, .. } => Rule::Filled {
+        Instr::MoveFrom { from, tag, .. } => StepRule::Filled {
             lane: Lane::new(from, rank, Kind::Move, tag),
         },
-        Instr::ReachTo { to, tag, .. } => Rule::Filled {
+        Instr::ReachTo { to, tag, .. } => StepRule::Filled {
             lane: Lane::new(to, rank, Kind::Back, tag),
         },
-        Instr::ReachFrom { from, tag, .. } => Rule::Lent {
+        Instr::ReachFrom { from, tag, .. } => StepRule::Lent {
             lane: Lane::new(from, rank, Kind::Reach, tag),
             back: Lane::new(rank, from, Kind::Back, tag),
         },
-        _ => Rule::Always,
+        _ => StepRule::Always,
     }
 }
 
@@ -100,53 +101,53 @@ fn letter_of(input: &Input, tables: &Tables, rank: u16, gate: Gate) -> Letter
 }
 
 /// A step without letters.
-fn silent(acts: Few<Act>) -> Step
+fn silent(acts: Few<StepAct>) -> StepWork
     ensures { result ≡ record { letters = Few.Empty; acts = acts } }
 {
-    Step {
+    StepWork {
         letters: Few::Empty,
         acts,
     }
 }
 
 /// A step with one letter.
-fn lettered(letter: Letter, acts: Few<Act>) -> Step
+fn lettered(letter: Letter, acts: Few<StepAct>) -> StepWork
     ensures { result ≡ record { letters = Few.One letter; acts = acts } }
 {
-    Step {
+    StepWork {
         letters: Few::One(letter),
         acts,
     }
 }
 
 /// Slot `q` is emptied.
-fn emptied(q: u8) -> Act
-    ensures { result ≡ Act.SlotSet q None }
+fn emptied(q: u8) -> StepAct
+    ensures { result ≡ StepAct.SlotSet q None }
 {
-    Act::SlotSet { q, wire: None }
+    StepAct::SlotSet { q, wire: None }
 }
 
 /// A load goes to the end of a lane.
-fn put(lane: Lane, load: Load) -> Act
-    ensures { result ≡ Act.Puts lane load }
+fn put(lane: Lane, load: Load) -> StepAct
+    ensures { result ≡ StepAct.Puts lane load }
 {
-    Act::Puts { lane, load }
+    StepAct::Puts { lane, load }
 }
 
 /// A step that takes the front wire of a lane into a slot.
-fn taking(input: &Input, tables: &Tables, lane: Lane, q: u8) -> Step
+fn taking(input: &Input, tables: &Tables, lane: Lane, q: u8) -> StepWork
     ensures { let w = wire_carried (load_at (tables_of input.now tables.now) lane) in
         result ≡ record {
           letters = Few.Empty;
-          acts = Few.Two (Act.Takes lane) (Act.SlotSet q (Some w));
+          acts = Few.Two (StepAct.Takes lane) (StepAct.SlotSet q (Some w));
         } }
 {
     let wire = Some(tables.front_wire(input, lane));
-    silent(Few::Two(Act::Takes { lane }, Act::SlotSet { q, wire }))
+    silent(Few::Two(StepAct::Takes { lane }, StepAct::SlotSet { q, wire }))
 }
 
 /// The step of an instruction that is done within its rank.
-fn local_step(input: &Input, tables: &Tables, rank: u16, instr: Instr) -> Step
+fn local_step(input: &Input, tables: &Tables, rank: u16, instr: Instr) -> StepWork
     requires same { length tables.now.ranks.items ≡ length input.now.ranks }
     requires known { rank < length input.now.ranks }
     requires unsent { lane_sent rank instr ≡ None }
@@ -159,7 +160,7 @@ fn local_step(input: &Input, tables: &Tables, rank: u16, instr: Instr) -> Step
     match instr {
         Instr::Alloc { q } => {
             let wire = Some(tables.made(input, rank));
-            silent(Few::Two(Act::Counts, Act::SlotSet { q, wire }))
+            silent(Few::Two(StepAct::Counts, StepAct::SlotSet { q, wire }))
         }
         Instr::Free { q } => lettered(
             Letter::Take {
@@ -176,13 +177,13 @@ fn local_step(input: &Input, tables: &Tables, rank: u16, instr: Instr) -> Step
                     w: tables.wire_in(rank, q),
                     m,
                 },
-                Few::Two(Act::OwnUsed, Act::BitSet { b, v: m }),
+                Few::Two(StepAct::OwnUsed, StepAct::BitSet { b, v: m }),
             )
         }
-        Instr::Set { b, v } => silent(Few::One(Act::BitSet { b, v })),
+        Instr::Set { b, v } => silent(Few::One(StepAct::BitSet { b, v })),
         Instr::Xor { b, c } => {
             let v = tables.bit(input, rank, b) ^ tables.bit(input, rank, c);
-            silent(Few::One(Act::BitSet { b, v }))
+            silent(Few::One(StepAct::BitSet { b, v }))
         }
         Instr::When { b, g } if tables.bit(input, rank, b) => {
             lettered(letter_of(input, tables, rank, g), Few::Empty)
@@ -192,7 +193,7 @@ fn local_step(input: &Input, tables: &Tables, rank: u16, instr: Instr) -> Step
 }
 
 /// The step of an instruction that sends on this lane.
-fn send_step(input: &Input, tables: &Tables, rank: u16, instr: Instr, lane: Lane) -> Step
+fn send_step(input: &Input, tables: &Tables, rank: u16, instr: Instr, lane: Lane) -> StepWork
     requires same { length tables.now.ranks.items ≡ length input.now.ranks }
     requires known { rank < length input.now.ranks }
     requires sent { lane_sent rank instr ≡ Some lane }
@@ -210,12 +211,12 @@ fn send_step(input: &Input, tables: &Tables, rank: u16, instr: Instr, lane: Lane
             let c = tables.wire_in(rank, q);
             let t = tables.made(input, rank);
             let puts = put(lane, Load::Carried { wire: t });
-            lettered(Letter::Cx { c, t }, Few::Two(Act::Counts, puts))
+            lettered(Letter::Cx { c, t }, Few::Two(StepAct::Counts, puts))
         }
         Instr::UndoTo { q, to, .. } => {
             let c = tables.offered(input, to);
             let t = tables.wire_in(rank, q);
-            Step {
+            StepWork {
                 letters: Few::Two(Letter::Cx { c, t }, Letter::Take { w: t, m: false }),
                 acts: Few::Two(emptied(q), put(lane, Load::Token)),
             }
@@ -226,19 +227,19 @@ fn send_step(input: &Input, tables: &Tables, rank: u16, instr: Instr, lane: Lane
             let puts = put(lane, Load::Carried { wire: b });
             lettered(
                 Letter::Rename { a, b },
-                Few::Three(Act::Counts, emptied(q), puts),
+                Few::Three(StepAct::Counts, emptied(q), puts),
             )
         }
         Instr::ReachTo { to, tag, .. } => {
             let back = Lane::new(to, rank, Kind::Back, tag);
-            silent(Few::Two(Act::Counts, Act::Takes { lane: back }))
+            silent(Few::Two(StepAct::Counts, StepAct::Takes { lane: back }))
         }
         _ => unreachable!(),
     }
 }
 
 /// The step of an instruction that receives on this lane.
-fn receive_step(input: &Input, tables: &Tables, rank: u16, instr: Instr, lane: Lane) -> Step
+fn receive_step(input: &Input, tables: &Tables, rank: u16, instr: Instr, lane: Lane) -> StepWork
     requires same { length tables.now.ranks.items ≡ length input.now.ranks }
     requires known { rank < length input.now.ranks }
     requires received { lane_received rank instr ≡ Some lane }
@@ -250,10 +251,10 @@ fn receive_step(input: &Input, tables: &Tables, rank: u16, instr: Instr, lane: L
     match instr {
         Instr::RecvBit { b, .. } => {
             let v = tables.front_bit(input, lane);
-            silent(Few::Two(Act::Takes { lane }, Act::BitSet { b, v }))
+            silent(Few::Two(StepAct::Takes { lane }, StepAct::BitSet { b, v }))
         }
         Instr::CopyFrom { q, .. } | Instr::MoveFrom { q, .. } => taking(input, tables, lane, q),
-        Instr::UndoFrom { .. } => silent(Few::One(Act::Takes { lane })),
+        Instr::UndoFrom { .. } => silent(Few::One(StepAct::Takes { lane })),
         Instr::ReachFrom { t, from, tag } => {
             let c = tables.offered(input, from);
             let t = tables.wire_in(rank, t);
@@ -265,7 +266,7 @@ fn receive_step(input: &Input, tables: &Tables, rank: u16, instr: Instr, lane: L
 }
 
 /// A rank's step for an instruction.
-pub(crate) fn step_of(input: &Input, tables: &Tables, rank: u16, instr: Instr) -> Step
+pub(crate) fn step_of(input: &Input, tables: &Tables, rank: u16, instr: Instr) -> StepWork
     requires same { length tables.now.ranks.items ≡ length input.now.ranks }
     requires known { rank < length input.now.ranks }
     ensures letters { list_of result.letters

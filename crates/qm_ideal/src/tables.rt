@@ -10,7 +10,7 @@ ghost use Rattle.qm_ideal.specs.OneCircuits.{no_rank};
 ghost use Rattle.qm_ideal.specs.Views.{tables_of, slots_at, ends_of};
 
 use crate::lanes::Lanes;
-use crate::steps::{Act, Load};
+use crate::steps::{Load, StepAct};
 use qm_denot::Wire;
 use qm_instr::bits::{BITS, number_of_bits};
 use qm_instr::{Input, Instr, Lane};
@@ -22,7 +22,7 @@ const SLOTS: usize = qm_limits::SLOTS as usize;
 
 /// A rank: the number of its next instruction, how many wires it has counted and outcomes it has used, its bits and its slots.
 #[derive(Drop)]
-pub(crate) struct Rank {
+pub(crate) struct IdealRank {
     at: u32,
     made: u32,
     used: usize,
@@ -30,7 +30,7 @@ pub(crate) struct Rank {
     slots: [Option<Wire>; SLOTS],
 }
 
-impl Rank {
+impl IdealRank {
     /// The bits as a number, bit 0 the lowest.
     fn number(&self) -> u32
         ensures { result ≡ number_of_bits self.now.bits }
@@ -42,7 +42,7 @@ impl Rank {
 /// All ranks and lanes.
 #[derive(Drop)]
 pub(crate) struct Tables {
-    ranks: Vec<Rank>,
+    ranks: Vec<IdealRank>,
     lanes: Lanes<Load>,
 }
 
@@ -83,7 +83,7 @@ impl Tables {
     {
         let mut ranks = Vec::with_capacity(alloc, usize::from(input.ranks()))?;
         for _ in 0..input.ranks() {
-            ranks.push_reserved(Rank {
+            ranks.push_reserved(IdealRank {
                 at: 0,
                 made: 0,
                 used: 0,
@@ -306,7 +306,7 @@ impl Tables {
         alloc: Global,
         input: &Input,
         rank: u16,
-        act: Act,
+        act: StepAct,
     ) -> Result<(), AllocError>
         requires same { length self.old.ranks.items ≡ length input.now.ranks }
         requires known { rank < length input.now.ranks }
@@ -317,12 +317,12 @@ impl Tables {
         ensures ranks { OnOk result (length self.new.ranks.items ≡ length self.old.ranks.items) }
     {
         match act {
-            Act::Counts => self.count(input, rank),
-            Act::SlotSet { q, wire } => self.set_slot(input, rank, q, wire),
-            Act::Puts { lane, load } => self.put(alloc, input, rank, lane, load)?,
-            Act::Takes { lane } => self.take(input, rank, lane),
-            Act::OwnUsed => self.use_own(input, rank),
-            Act::BitSet { b, v } => self.set_bit(input, rank, b, v),
+            StepAct::Counts => self.count(input, rank),
+            StepAct::SlotSet { q, wire } => self.set_slot(input, rank, q, wire),
+            StepAct::Puts { lane, load } => self.put(alloc, input, rank, lane, load)?,
+            StepAct::Takes { lane } => self.take(input, rank, lane),
+            StepAct::OwnUsed => self.use_own(input, rank),
+            StepAct::BitSet { b, v } => self.set_bit(input, rank, b, v),
         }
         Ok(())
     }
@@ -333,7 +333,7 @@ impl Tables {
         alloc: Global,
         input: &Input,
         rank: u16,
-        acts: Few<Act>,
+        acts: Few<StepAct>,
     ) -> Result<(), AllocError>
         requires same { length self.old.ranks.items ≡ length input.now.ranks }
         requires known { rank < length input.now.ranks }

@@ -6,7 +6,7 @@ ghost use Rattle.qm_denot.specs.Weights.{operands};
 ghost use Rattle.qm_denot.specs.WireLists.{with_renamed};
 ghost use Rattle.qm_denot.specs.Wires.{is_wire};
 ghost use Rattle.qm_proto.specs.Model.Ideal.{made_fresh, width};
-ghost use Rattle.qm_ideal.specs.Widths.{lacked, also_lacked};
+ghost use Rattle.qm_ideal.specs.Widths.{is_unnamed, is_unnamed_with};
 
 use qm_denot::{Letter, Wire};
 use qm_limits::{MOST_RANKS, SLOTS};
@@ -15,7 +15,8 @@ use std::collections::BTreeSet;
 
 /// Makes a wire fresh, where no letter has named it.
 fn make_fresh(live: &mut Vec<Wire>, named: &BTreeSet<Wire>, w: Wire) -> Result<(), AllocError>
-    ensures { OnOk result (live.new.items ≡ live.old.items ++ filter (lacked named.now) (w ∷ [])) }
+    ensures { OnOk result (live.new.items
+        ≡ live.old.items ++ filter (is_unnamed named.now) (w ∷ [])) }
 {
     if !named.contains(&w) {
         live.push(w)?;
@@ -26,7 +27,7 @@ fn make_fresh(live: &mut Vec<Wire>, named: &BTreeSet<Wire>, w: Wire) -> Result<(
 /// Makes the wires fresh that a letter needs and that none before it has named.
 fn prepare(live: &mut Vec<Wire>, named: &BTreeSet<Wire>, letter: Letter) -> Result<(), AllocError>
     ensures { OnOk result (live.new.items
-        ≡ live.old.items ++ filter (lacked named.now) (made_fresh letter)) }
+        ≡ live.old.items ++ filter (is_unnamed named.now) (made_fresh letter)) }
 {
     match letter {
         Letter::Phase { w, .. }
@@ -79,7 +80,7 @@ fn pass(live: &mut Vec<Wire>, letter: Letter) -> Result<(), AllocError>
 /// Notes that a wire is named.
 fn note(named: &mut BTreeSet<Wire>, w: Wire) -> Result<(), AllocError>
     ensures { OnOk result ((v : Wire)
-        → lacked named.new v ≡ (not (is_wire w v) && lacked named.old v)) }
+        → is_unnamed named.new v ≡ (not (is_wire w v) && is_unnamed named.old v)) }
 {
     named.insert(w)?;
     Ok(())
@@ -88,7 +89,7 @@ fn note(named: &mut BTreeSet<Wire>, w: Wire) -> Result<(), AllocError>
 /// Notes the wires that a letter names.
 fn note_all(named: &mut BTreeSet<Wire>, letter: Letter) -> Result<(), AllocError>
     ensures { OnOk result ((v : Wire)
-        → lacked named.new v ≡ also_lacked (lacked named.old) (operands letter) v) }
+        → is_unnamed named.new v ≡ is_unnamed_with (is_unnamed named.old) (operands letter) v) }
 {
     match letter {
         Letter::Phase { w, .. }
@@ -109,7 +110,7 @@ fn note_all(named: &mut BTreeSet<Wire>, letter: Letter) -> Result<(), AllocError
 
 /// How many of these wires no letter has named.
 fn unnamed(named: &BTreeSet<Wire>, ends: &[Wire]) -> usize
-    ensures { result ≡ length (filter (lacked named.now) ends.now) }
+    ensures { result ≡ length (filter (is_unnamed named.now) ends.now) }
 {
     ends.iter().filter(|w| !named.contains(*w)).count()
 }

@@ -1,2 +1,2 @@
-pub mod LexLemmas
+mod LexLemmas
 pub mod SpanLemmas

@@ -7,7 +7,7 @@ use Rattle.qm_lex.specs.declared.lexer.Piece.{Piece}
 use Rattle.qm_lex.specs.declared.lexer.Piece.TheVariants.{Gap, Part, Bad}
 use Rattle.qm_lex.specs.Bytes.{is_blank, is_digit, is_letter, is_word_byte, is_symbol, is_comment_byte}
 use Rattle.qm_lex.specs.Pieces.{begins_with, piece_at, HasBytes}
-use Rattle.qm_lex.specs.Lexing.{with_first, line_after, behind, lexed, tokens_of}
+use Rattle.qm_lex.specs.Lexing.{with_first, line_after, behind, tokens_from, tokens_of}
 use Rattle.qm_lex.specs.declared.tokens.Token.{Token}
 use Rattle.qm_lex.specs.Spans.{SpansRise, LieIn}
 
@@ -64,7 +64,7 @@ HasBytes-piece_at b rest =
     (HasBytes-if (b == 46) _ _ n (two-bytes rest) tt)))))
 
 -- ---- tokens lie in their text
-lexed-rises : (n at line : ℕ) (bytes : List ℕ) (ts : List Token) → lexed n at line bytes ≡ Ok ts → SpansRise at (at + length bytes) ts
+lexed-rises : (n at line : ℕ) (bytes : List ℕ) (ts : List Token) → tokens_from n at line bytes ≡ Ok ts → SpansRise at (at + length bytes) ts
 lexed-rises n at line [] ts e = let h : [] ≡ ts = cc in subst (λ (x : List Token). SpansRise at (at + 0) x) h (omega arith)
 lexed-rises zero at line (b ∷ rest) ts e = cc
 lexed-rises (suc n) at line (b ∷ rest) ts e = by_piece (lexed-rises n) (piece_at b rest) (HasBytes-piece_at b rest) e
@@ -73,14 +73,14 @@ lexed-rises (suc n) at line (b ∷ rest) ts e = by_piece (lexed-rises n) (piece_
     by_rest t (Ok us) l k go f = let h : t ∷ us ≡ ts = cc in subst (λ (x : List Token). SpansRise at (at + length (b ∷ rest)) x) h (l, k, go us refl)
     by_rest t (Err x) l k go f = cc
 
-    by_piece : ((at line : ℕ) (bytes : List ℕ) (ts : List Token) → lexed n at line bytes ≡ Ok ts → SpansRise at (at + length bytes) ts) → (p : Piece) → HasBytes p (suc (length rest)) → behind (lexed n) at line b rest p ≡ Ok ts → SpansRise at (at + length (b ∷ rest)) ts
+    by_piece : ((at line : ℕ) (bytes : List ℕ) (ts : List Token) → tokens_from n at line bytes ≡ Ok ts → SpansRise at (at + length bytes) ts) → (p : Piece) → HasBytes p (suc (length rest)) → behind (tokens_from n) at line b rest p ≡ Ok ts → SpansRise at (at + length (b ∷ rest)) ts
     by_piece go (Gap len) h f =
         let l : (at + len) + length (drop len (b ∷ rest)) ≡ at + length (b ∷ rest) = omega (arith, h, length-drop len (b ∷ rest)) in
         SpansRise-earlier at (at + len) (at + length (b ∷ rest)) ts (omega arith) (subst (λ (x : ℕ). SpansRise (at + len) x ts) l (go (at + len) (line_after b line) (drop len (b ∷ rest)) ts f))
     by_piece go (Part kind len) h f =
         let l : (at + len) + length (drop len (b ∷ rest)) ≡ at + length (b ∷ rest) = omega (arith, h, length-drop len (b ∷ rest)) in
         let low : at ≤ at = omega arith in let some : at < at + len = omega (arith, h) in
-        by_rest (record { kind = kind; start = at; stop = at + len; line = line }) (lexed n (at + len) line (drop len (b ∷ rest))) low some
+        by_rest (record { kind = kind; start = at; stop = at + len; line = line }) (tokens_from n (at + len) line (drop len (b ∷ rest))) low some
         (λ us e. subst (λ (x : ℕ). SpansRise (at + len) x us) l (go (at + len) line (drop len (b ∷ rest)) us e)) f
     by_piece go Bad h f = cc
 

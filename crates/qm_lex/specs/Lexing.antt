@@ -25,14 +25,14 @@ behind rest_from at line b rest (Part kind len) =
 behind rest_from at line b rest Bad = Err line
 
 -- from a place in the text on, piece by piece; the bound on pieces is any number that is no less than the bytes left
-abbrev pub lexed : ℕ → ℕ → ℕ → List ℕ → Result (List Token) ℕ
-lexed n at line [] = Ok []
-lexed zero at line (b ∷ rest) = Err line
-lexed (suc n) at line (b ∷ rest) = behind (lexed n) at line b rest (piece_at b rest)
+abbrev pub tokens_from : ℕ → ℕ → ℕ → List ℕ → Result (List Token) ℕ
+tokens_from n at line [] = Ok []
+tokens_from zero at line (b ∷ rest) = Err line
+tokens_from (suc n) at line (b ∷ rest) = behind (tokens_from n) at line b rest (piece_at b rest)
 
 -- the tokens of a text, whose first line is 1, or the line of its first bad byte
 abbrev pub tokens_of : List ℕ → Result (List Token) ℕ
-tokens_of text = lexed (length text) 0 1 text
+tokens_of text = tokens_from (length text) 0 1 text
 
 -- one more than the number of line feeds
 abbrev pub end_line : List ℕ → ℕ

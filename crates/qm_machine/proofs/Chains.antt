@@ -17,7 +17,7 @@ use Rattle.qm_proto.specs.Model.Runs.{events_at, part_after_event, row_next, row
 use Rattle.qm_proto.specs.Model.Places.{Place, InSlot, NearOf, FarOf, IsAt}
 use Rattle.qm_proto.specs.May.{Limits, limits_after, limits_after_all}
 use Rattle.qm_proto.proofs.ActLists.{after_acts-append, acts_letters-append, limits_after_all-append}
-use Rattle.qm_machine.specs.Facts.{Facts, is_pauli, limits_of, IsSound, Did, moved}
+use Rattle.qm_machine.specs.Facts.{Facts, is_pauli, limits_of, AreSound, Did, with_rank_moved}
 use Rattle.qm_machine.specs.Tries.{Advanced}
 
 -- ---- the ranks and the room of the lanes stay the same
@@ -94,7 +94,7 @@ at_with_part t r x w (NearOf k) = (λ h. h, λ h. h)
 at_with_part t r x w (FarOf k) = (λ h. h, λ h. h)
 
 -- the place of each wire stays the same
-moved_sound : (f : Facts) (r n : ℕ) → IsSound f → IsSound (moved f r n)
+moved_sound : (f : Facts) (r n : ℕ) → AreSound f → AreSound (with_rank_moved f r n)
 moved_sound f r n sound =
     record {
       live = λ w.
@@ -111,7 +111,7 @@ moved_sound f r n sound =
 
 -- the acts of a rank's next event and then the move are that event
 pub advanced : (p : Programs) (f g h : Facts) (r n : ℕ) (w : Row) → row_next p f.tables r ≡ Some w → events_at (current p f.tables r) ≡ n
-    → Did f r (list_of w.acts) g → h ≡ moved g r n → Advanced p f r h
+    → Did f r (list_of w.acts) g → h ≡ with_rank_moved g r n → Advanced p f r h
 advanced p f g h r n w is count d e =
     let P : Facts → Type 0 = Advanced p f r in
     subst P (sym e) (

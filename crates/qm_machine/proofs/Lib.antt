@@ -1,17 +1,17 @@
-pub mod Chains
-pub mod Acting
-pub mod Passing
-pub mod RowsRead
-pub mod HalfSets
-pub mod RankTables
-pub mod LivePlaces
-pub mod PlaceTables
-pub mod Leaving
-pub mod Squares
-pub mod MailTables
-pub mod StartTables
-pub mod Counts
-pub mod Starts
-pub mod Trying
-pub mod Steps
-pub mod Halting
+mod Chains
+mod Acting
+mod Passing
+mod RowsRead
+mod HalfSets
+mod RankTables
+mod LivePlaces
+mod PlaceTables
+mod Leaving
+mod Squares
+mod MailTables
+mod StartTables
+mod Counts
+mod Starts
+mod Trying
+mod Steps
+mod Halting

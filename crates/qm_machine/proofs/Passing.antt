@@ -21,7 +21,7 @@ use Rattle.qm_proto.specs.declared.Cause.TheVariants as cause
 use Rattle.qm_proto.specs.Model.Runs.{FirstFails, NoneFails}
 use Rattle.qm_proto.specs.Model.Rows.{letter_checks}
 use Rattle.qm_machine.specs.Facts.{Facts}
-use Rattle.qm_machine.specs.Tries.{Passes, Stops, Asked, AllOverflow, IsTriable, asked, told_by}
+use Rattle.qm_machine.specs.Tries.{Passes, Stops, Asked, AllOverflow, IsTriable, checks_before_acts, told_by}
 
 -- a circuit has one reduced form, so the store's numbers tell whether those after a `Had` fit
 pub passes_fits : (f : Facts) (w : Wire) → ¬ (Overflows (Had w) f.store) → Passes f (Fits w ∷ [])
@@ -79,19 +79,19 @@ stops_told f _ h = absurd h
 
 -- ---- a line that is tried
 module _ (f : Facts) (w : Row) (triable : IsTriable w) where
-  pub passes_row : Passes f (asked (list_of w.checks)) → ¬ (AllOverflow (list_of w.acts) f.store) → Passes f (list_of w.checks)
+  pub passes_row : Passes f (checks_before_acts (list_of w.checks)) → ¬ (AllOverflow (list_of w.acts) f.store) → Passes f (list_of w.checks)
   passes_row h i =
       subst (Passes f) (sym triable.checks)
-      (passes_both f (asked (list_of w.checks)) (told_by (list_of w.acts)) h (passes_told f (list_of w.acts) i))
+      (passes_both f (checks_before_acts (list_of w.checks)) (told_by (list_of w.acts)) h (passes_told f (list_of w.acts) i))
 
-  pub stops_asked : (e : Cause) → Stops f (asked (list_of w.checks)) e → Stops f (list_of w.checks) e
+  pub stops_asked : (e : Cause) → Stops f (checks_before_acts (list_of w.checks)) e → Stops f (list_of w.checks) e
   stops_asked e h =
-      subst (λ ks. Stops f ks e) (sym triable.checks) (stops_before f (asked (list_of w.checks)) (told_by (list_of w.acts)) e h)
+      subst (λ ks. Stops f ks e) (sym triable.checks) (stops_before f (checks_before_acts (list_of w.checks)) (told_by (list_of w.acts)) e h)
 
-  pub stops_row : Passes f (asked (list_of w.checks)) → AllOverflow (list_of w.acts) f.store → Stops f (list_of w.checks) cause.Overflow
+  pub stops_row : Passes f (checks_before_acts (list_of w.checks)) → AllOverflow (list_of w.acts) f.store → Stops f (list_of w.checks) cause.Overflow
   stops_row h i =
       subst (λ ks. Stops f ks cause.Overflow) (sym triable.checks)
-      (stops_after f (asked (list_of w.checks)) (told_by (list_of w.acts)) cause.Overflow h (stops_told f (list_of w.acts) i))
+      (stops_after f (checks_before_acts (list_of w.checks)) (told_by (list_of w.acts)) cause.Overflow h (stops_told f (list_of w.acts) i))
 
 -- ---- tests that a store answers
 -- numbers of a store are zero where the circuit's are
@@ -122,19 +122,19 @@ module _ (f : Facts) where
   stops_equal w v (x, is, some) c s = inl ((x, is, λ e. some (zero_here f c s x e)), refl)
 
 -- what is asked of one test, and of others after it
-asked_more : (k : Check) (ks : List Check) → asked (k ∷ ks) ≡ asked (k ∷ []) ++ asked ks
+asked_more : (k : Check) (ks : List Check) → checks_before_acts (k ∷ ks) ≡ checks_before_acts (k ∷ []) ++ checks_before_acts ks
 asked_more (Possible w m) ks = refl
 asked_more (Zero w) ks = refl
 asked_more (Equal w v) ks = refl
 asked_more (Fits w) ks = refl
 
 module _ (f : Facts) (k : Check) (ks : List Check) where
-  pub asked_first : (e : Cause) → Stops f (asked (k ∷ [])) e → Stops f (asked (k ∷ ks)) e
-  asked_first e h = subst (λ js. Stops f js e) (sym (asked_more k ks)) (stops_before f (asked (k ∷ [])) (asked ks) e h)
+  pub asked_first : (e : Cause) → Stops f (checks_before_acts (k ∷ [])) e → Stops f (checks_before_acts (k ∷ ks)) e
+  asked_first e h = subst (λ js. Stops f js e) (sym (asked_more k ks)) (stops_before f (checks_before_acts (k ∷ [])) (checks_before_acts ks) e h)
 
-  pub asked_then : (o : Option Cause) → Passes f (asked (k ∷ [])) → Asked f (asked ks) o → Asked f (asked (k ∷ ks)) o
-  asked_then None h i = subst (Passes f) (sym (asked_more k ks)) (passes_both f (asked (k ∷ [])) (asked ks) h i)
-  asked_then (Some e) h i = subst (λ js. Stops f js e) (sym (asked_more k ks)) (stops_after f (asked (k ∷ [])) (asked ks) e h i)
+  pub asked_then : (o : Option Cause) → Passes f (checks_before_acts (k ∷ [])) → Asked f (checks_before_acts ks) o → Asked f (checks_before_acts (k ∷ ks)) o
+  asked_then None h i = subst (Passes f) (sym (asked_more k ks)) (passes_both f (checks_before_acts (k ∷ [])) (checks_before_acts ks) h i)
+  asked_then (Some e) h i = subst (λ js. Stops f js e) (sym (asked_more k ks)) (stops_after f (checks_before_acts (k ∷ [])) (checks_before_acts ks) e h i)
 
 -- a test by its answer
 module _ (f : Facts) (ks : List Check) (b : Bool) (e : Cause) (o : Option Cause) (yes : b ≡ true → o ≡ None) (no : b ≡ false → o ≡ Some e) where

@@ -1,5 +1,5 @@
 -- The line of the table at which a rank stands
-use Rattle.std.proofs.Common.{◌≡◌, ◌<◌, ◌+◌, ◌^◌, ℕ, Bool, true, false, nat_lt, ◌==◌, if◌then◌else◌, Option, Some, None, is_some, List, [], ◌∷◌, ◌++◌, ◌≤◌, length, take, slice_get, inl, inr, refl, sym, ap, subst, ◌∙◌, arith}
+use Rattle.std.proofs.Common.{◌≡◌, ◌<◌, ◌+◌, ◌^◌, ℕ, Bool, true, false, nat_lt, ◌==◌, if◌then◌else◌, Option, Some, None, List, [], ◌∷◌, ◌++◌, ◌≤◌, length, take, slice_get, inl, inr, refl, sym, ap, subst, ◌∙◌, arith}
 use Rattle.std.specs.Option.{option_or}
 use Rattle.std.specs.List.{AllByRecursion}
 use Rattle.std.proofs.lemmas.Option.{slice_get_within, get_or_from_slice_get}
@@ -17,7 +17,6 @@ use Rattle.qm_check.specs.Slots.{partner_fault, slot_fault, fault_if_any, full_a
 use Rattle.qm_denot.specs.Circuits.{Circuit}
 use Rattle.qm_denot.specs.declared.Letter.{Letter}
 use Rattle.qm_denot.specs.declared.Letter.TheVariants.{Phase, Flip, Had}
-use Rattle.qm_proto.specs.declared.Cause.{Cause}
 use Rattle.qm_proto.specs.declared.Cause.TheVariants as cause
 use Rattle.qm_proto.specs.declared.Check.{Check}
 use Rattle.qm_proto.specs.declared.Check.TheVariants.{Possible, Zero, Equal, Fits}
@@ -28,12 +27,12 @@ use Rattle.qm_proto.specs.Model.Acts.{list_of}
 use Rattle.qm_proto.specs.Model.State.{Tables, wire_in, bit_of, wire_of, first_bit, second_bit}
 use Rattle.qm_proto.specs.declared.Row.{Row}
 use Rattle.qm_proto.specs.Model.Rows.{rows, current, letter, letter_checks, gate_letter, few_if}
-use Rattle.qm_proto.specs.Model.Runs.{FirstFails, row_in, row_next, row_holds, row_checks, holds, enabled, has_event}
+use Rattle.qm_proto.specs.Model.Runs.{FirstFails, row_in, row_next}
 use Rattle.qm_proto.proofs.Positions.{all_at_kept, all_stage_kept}
 use Rattle.qm_proto.proofs.Lines.{rows_count}
 use Rattle.qm_machine.specs.Facts.{Facts, Did}
 use Rattle.qm_machine.specs.Reads.{IsRuleKnown}
-use Rattle.qm_machine.specs.Tries.{Passes, Stops, IsTriable, asked, told_by, are_sure}
+use Rattle.qm_machine.specs.Tries.{IsTriable, checks_before_acts, told_by, are_sure}
 
 -- ---- the lines of an instruction
 -- there are few of them
@@ -90,12 +89,12 @@ module _ (P : Row → Type 0) where
       subst P (get_or_from_slice_get ws k w w is) this
 
 -- the tests of a letter are those that its act tells
-letter_told : (l : Letter) → list_of (letter_checks l) ≡ asked (list_of (letter_checks l)) ++ told_by (list_of (letter l))
+letter_told : (l : Letter) → list_of (letter_checks l) ≡ checks_before_acts (list_of (letter_checks l)) ++ told_by (list_of (letter l))
 letter_told (Had w) = refl
 letter_told _ = refl
 
 if_told : (b : Bool) (l : Letter)
-    → list_of (few_if b (letter_checks l)) ≡ asked (list_of (few_if b (letter_checks l))) ++ told_by (list_of (few_if b (letter l)))
+    → list_of (few_if b (letter_checks l)) ≡ checks_before_acts (list_of (few_if b (letter_checks l))) ++ told_by (list_of (few_if b (letter l)))
 if_told true l = letter_told l
 if_told false l = refl
 
@@ -108,7 +107,7 @@ fix_told : (b : Bool) (l : Letter) → letter_checks l ≡ Empty → [] ≡ told
 fix_told true l e = sym (ap (λ (ks : Few Check). list_of ks) e)
 fix_told false l e = refl
 
-ok : (w : Row) → list_of w.checks ≡ asked (list_of w.checks) ++ told_by (list_of w.acts) → are_sure w.acts ≡ true → IsTriable w
+ok : (w : Row) → list_of w.checks ≡ checks_before_acts (list_of w.checks) ++ told_by (list_of w.acts) → are_sure w.acts ≡ true → IsTriable w
 ok w checks sure = record { checks = checks; sure = sure }
 
 rows_triable : (p : Programs) (t : Tables) (r : ℕ) (i : Instr) → AllByRecursion IsTriable (rows p t r i)

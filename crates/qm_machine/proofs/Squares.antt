@@ -8,7 +8,7 @@ use Rattle.qm_denot.specs.declared.Letter.{Letter}
 use Rattle.qm_denot.specs.declared.Letter.TheVariants.{Phase, Flip, Had, Cx, Cz, Pair, Keep, Take, Rename}
 use Rattle.qm_denot.specs.Circuits.{Circuit}
 use Rattle.qm_denot.specs.WireLists.{without_wire}
-use Rattle.qm_denot.specs.Stores.{Store, StandsFor, MayApply, MayGrow, live_after, IsSound as IsStoreSound}
+use Rattle.qm_denot.specs.Stores.{Store, StandsFor, MayApply, MayGrow, live_after, IsSound}
 use Rattle.qm_instr.specs.declared.Lane.{Lane}
 use Rattle.qm_owner.specs.Places.{IsPlacing}
 use Rattle.qm_denot.specs.declared.Parcel.{Parcel}
@@ -19,7 +19,7 @@ use Rattle.qm_proto.specs.Model.Acts.{with_one_counted, after_act, acts_letters,
 use Rattle.qm_proto.specs.May.{Limits, MayLetter, limits_after}
 use Rattle.qm_proto.specs.Model.Places.{InSlot, NearOf, FarOf, IsPlaced, IsOnlyAt, IsOwn}
 use Rattle.qm_proto.proofs.TidyChanges.{slot_changed, near_more, far_more, near_less, far_less}
-use Rattle.qm_machine.specs.Facts.{Facts, IsSound, Can, Did, room_of, limits_of, is_pauli}
+use Rattle.qm_machine.specs.Facts.{Facts, AreSound, Can, Did, room_of, limits_of, is_pauli}
 use Rattle.qm_machine.specs.Tries.{MayGrowBy}
 use Rattle.qm_machine.proofs.LivePlaces.{AreLive, live_beside, live_more, live_less, live_settled, slot_comes, near_comes, far_comes, near_leaves, far_leaves, slot_leaves, length-without_wire}
 
@@ -129,7 +129,7 @@ module _ (f g : Facts) (r : ℕ) (same : SameStore f g) where
       (ap (λ (s : Limits). s.letters) left ∙ rw none (omega arith))
 
   -- parts and lanes may change, and no wire moves
-  same_live : (act : Act) → IsSound f
+  same_live : (act : Act) → AreSound f
       → AreLive f.store.live (record f.tables { parts = (after_act r act f.tables).parts; held = f.tables.held; lanes = (after_act r act f.tables).lanes })
   same_live act sound = live_beside f.tables (after_act r act f.tables).parts f.tables.held (after_act r act f.tables).lanes f.store.live sound.live
 
@@ -219,10 +219,10 @@ live_kept r (Keep w m) t ws h = refl
 live_kept r (Take w m) t ws h = absurd h
 live_kept r (Rename a b) t ws h = absurd h
 
-own_lives : (f : Facts) (r : ℕ) (w : Wire) → IsSound f → IsOwn f.tables r w → Contains f.store.live w
+own_lives : (f : Facts) (r : ℕ) (w : Wire) → AreSound f → IsOwn f.tables r w → Contains f.store.live w
 own_lives f r w sound h = (sound.live w).1 (h.0, h.1)
 
-pub may_apply : (f : Facts) (r : ℕ) (l : Letter) → IsSound f → MayGrowBy (Apply l) f.store → MayLetter r l f.tables → MayApply l f.store
+pub may_apply : (f : Facts) (r : ℕ) (l : Letter) → AreSound f → MayGrowBy (Apply l) f.store → MayLetter r l f.tables → MayApply l f.store
 may_apply f r (Phase k w) sound grow h = (h.0, own_lives f r w sound h.1)
 may_apply f r (Flip w) sound grow h = own_lives f r w sound h
 may_apply f r (Had w) sound grow h = (own_lives f r w sound h, grow refl)
@@ -247,7 +247,7 @@ did_letter f g r l can tables beside live =
 pub near_lives : (f : Facts) (r : ℕ) (m : Bool) → Can f r (NearOut m ∷ []) → Contains f.store.live (near_last f.tables r)
 near_lives f r m can = (can.sound.live (near_last f.tables r)).1 (NearOf r, can.may.0.only.here)
 
-pub did_near_out : (f g : Facts) (r : ℕ) (m : Bool) → Can f r (NearOut m ∷ []) → IsStoreSound f.store
+pub did_near_out : (f g : Facts) (r : ℕ) (m : Bool) → Can f r (NearOut m ∷ []) → IsSound f.store
     → g.tables ≡ after_act r (NearOut m) f.tables → Beside f g (Take (near_last f.tables r) m ∷ [])
     → g.store.live ≡ without_wire f.store.live (near_last f.tables r) → Did f r (NearOut m ∷ []) g
 did_near_out f g r m can store tables beside live =
@@ -264,7 +264,7 @@ did_near_out f g r m can store tables beside live =
     (omega arith) (omega arith) refl refl (omega arith)
 
 -- ---- a wire that is measured away, by whichever act
-module _ (f g : Facts) (r : ℕ) (w : Wire) (m : Bool) (act : Act) (can : Can f r (act ∷ [])) (store : IsStoreSound f.store) (here : IsPlaced f.tables w) where
+module _ (f g : Facts) (r : ℕ) (w : Wire) (m : Bool) (act : Act) (can : Can f r (act ∷ [])) (store : IsSound f.store) (here : IsPlaced f.tables w) where
   taken_lives : Contains f.store.live w
   taken_lives = (can.sound.live w).1 here
 
@@ -282,7 +282,7 @@ module _ (f g : Facts) (r : ℕ) (w : Wire) (m : Bool) (act : Act) (can : Can f 
       (omega arith) (room ∙ sym (ap (λ (s : Limits). s.wires) left)) (ap (λ (s : Limits). s.ranks) left) (ap (λ (s : Limits). s.parcels) left)
       (ap (λ (s : Limits). s.letters) left ∙ rw letters (omega arith))
 
-pub did_far_out : (f g : Facts) (r : ℕ) (w : Wire) (m : Bool) → Can f r (FarOut w m ∷ []) → IsStoreSound f.store
+pub did_far_out : (f g : Facts) (r : ℕ) (w : Wire) (m : Bool) → Can f r (FarOut w m ∷ []) → IsSound f.store
     → g.tables ≡ after_act r (FarOut w m) f.tables → Beside f g (Take w m ∷ [])
     → g.store.live ≡ without_wire f.store.live w → Did f r (FarOut w m ∷ []) g
 did_far_out f g r w m can store tables beside live =
@@ -298,7 +298,7 @@ slot_wire f r q m w can is =
     let only = can.may.0.only in
     subst (λ v. IsOnlyAt f.tables v (InSlot r q)) (same_Some can.may.0.wire w (sym only.here ∙ is)) only
 
-pub did_slot_out : (f g : Facts) (r q : ℕ) (m : Bool) (w : Wire) → Can f r (SlotOut q m ∷ []) → f.tables.slots r q ≡ Some w → IsStoreSound f.store
+pub did_slot_out : (f g : Facts) (r q : ℕ) (m : Bool) (w : Wire) → Can f r (SlotOut q m ∷ []) → f.tables.slots r q ≡ Some w → IsSound f.store
     → g.tables ≡ after_act r (SlotOut q m) f.tables → Beside f g (Take w m ∷ [])
     → g.store.live ≡ without_wire f.store.live w → Did f r (SlotOut q m ∷ []) g
 did_slot_out f g r q m w can is store tables beside live =

@@ -13,7 +13,7 @@ use Rattle.qm_proto.specs.Model.State.{State, Tables}
 use Rattle.qm_proto.specs.Model.Places.{InSlot, NearOf, FarOf, IsPlaced}
 use Rattle.qm_proto.specs.Model.Schedules.{replay, tables_at_start, state_at_start, IsLegal}
 use Rattle.qm_machine.specs.declared.Halt.{Halt}
-use Rattle.qm_machine.specs.Facts.{Facts, IsAtStart, IsSound, is_pauli, size_at}
+use Rattle.qm_machine.specs.Facts.{Facts, IsAtStart, AreSound, is_pauli, size_at}
 use Rattle.qm_proto.specs.Model.Totals.{event_total}
 use Rattle.qm_machine.specs.Keeps.{IsKept}
 use Rattle.qm_safety.proofs.Tables.Standing.{well, well_roomy}
@@ -35,7 +35,7 @@ replay_nothing p = refl
 nothing_placed : IsPlacing []
 nothing_placed = record { wires = tt; slots = tt }
 
-sound_at_start : (p : Programs) (s : Store) (f : Facts) → IsAtStart p s f → s.live ≡ [] → capacity_of p ≤ s.capacity → IsSound f
+sound_at_start : (p : Programs) (s : Store) (f : Facts) → IsAtStart p s f → s.live ≡ [] → capacity_of p ≤ s.capacity → AreSound f
 sound_at_start p s f a empty wide =
     let none : f.store.live ≡ [] = ap (λ (x : Store). x.live) a.store ∙ empty in
     record {

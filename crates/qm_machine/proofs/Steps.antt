@@ -10,13 +10,12 @@ use Rattle.qm_instr.specs.Programs.{Programs}
 use Rattle.qm_check.specs.Checks.{capacity_of}
 use Rattle.qm_check.specs.Messages.{lane_sends}
 use Rattle.qm_proto.specs.declared.Cause.{Cause}
-use Rattle.qm_proto.specs.declared.Cause.TheVariants as cause
 use Rattle.qm_proto.specs.declared.Row.{Row}
 use Rattle.qm_proto.specs.Model.State.{State, Tables}
 use Rattle.qm_proto.specs.Model.Acts.{list_of}
 use Rattle.qm_proto.specs.Model.Places.{IsPlaced}
 use Rattle.qm_proto.specs.Model.Runs.{FirstFails, NoneFails, row_next, row_checks, enabled, has_event, next, next_tables, next_letters}
-use Rattle.qm_proto.specs.Model.Schedules.{replay, IsLegal, IsStuck, IsLowestLeft, MayStep}
+use Rattle.qm_proto.specs.Model.Schedules.{replay, IsLegal, IsStuck, MayStep}
 use Rattle.qm_machine.specs.declared.body.Body.{Body}
 use Rattle.qm_machine.specs.declared.Halt.{Halt}
 use Rattle.qm_machine.specs.declared.Why.{Why}

@@ -47,7 +47,7 @@ limits_of f = record { ranks = f.ranks; wires = room_of f; parcels = f.parcels; 
 
 -- the live wires are those that have a place, no place is taken twice, each rank has slots, no more wires are live than may have a place,
 -- the store has room for as many, and no more Pauli letters were counted than letters
-pub record IsSound (f : Facts) : Type 0 where
+pub record AreSound (f : Facts) : Type 0 where
   pub live : (w : Wire) → Contains f.store.live w ↔ IsPlaced f.tables w
   pub placing : IsPlacing f.places.placed
   pub slotted : f.places.ranks ≡ f.ranks
@@ -81,7 +81,7 @@ AllMayCount sizes r (a ∷ acts) t = MayCount sizes r a t.held × AllMayCount si
 -- the body is sound, and rank r may do the acts
 pub record Can (f : Facts) (r : ℕ) (acts : List Act) : Type 0 where
   pub known : r < f.ranks
-  pub sound : IsSound f
+  pub sound : AreSound f
   pub may : AllMay (limits_of f) r acts f.tables
   pub counted : AllMayCount f.sizes r acts f.tables
 
@@ -90,7 +90,7 @@ pub record Can (f : Facts) (r : ℕ) (acts : List Act) : Type 0 where
 pub record Did (f : Facts) (r : ℕ) (acts : List Act) (g : Facts) : Type 0 where
   pub tables : g.tables ≡ after_acts r acts f.tables
   pub stands : (c : Circuit) → StandsFor f.store c → StandsFor g.store (c ++ acts_letters r acts f.tables)
-  pub sound : IsSound g
+  pub sound : AreSound g
   pub limits : limits_of g ≡ limits_after_all acts (limits_of f)
   pub capacity : g.places.capacity ≡ f.places.capacity
   pub sizes : g.sizes ≡ f.sizes
@@ -98,8 +98,8 @@ pub record Did (f : Facts) (r : ℕ) (acts : List Act) (g : Facts) : Type 0 wher
   pub paulis : g.paulis ≡ f.paulis + count_by is_pauli (acts_letters r acts f.tables)
 
 -- rank r stands at its next event, where its instruction has so many, and nothing else has changed
-abbrev pub moved : Facts → ℕ → ℕ → Facts
-moved f r n = record f { tables = with_part f.tables r (part_after_event n (f.tables.parts r)) }
+abbrev pub with_rank_moved : Facts → ℕ → ℕ → Facts
+with_rank_moved f r n = record f { tables = with_part f.tables r (part_after_event n (f.tables.parts r)) }
 
 -- a body before the first event of these programs, over a store: nothing has a place, as many wires may have one as the programs' slots
 -- and buffers hold, and each lane has room for its sends

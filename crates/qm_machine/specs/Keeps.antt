@@ -31,7 +31,7 @@ use Rattle.qm_machine.specs.declared.Step.{Step}
 use Rattle.qm_machine.specs.declared.Step.TheVariants as step
 use Rattle.qm_machine.specs.declared.Why.{Why}
 use Rattle.qm_machine.specs.declared.Why.TheVariants.{LaneEmpty, NoRoom, PartnerElsewhere}
-use Rattle.qm_machine.specs.Facts.{Facts, IsSound, is_pauli, sizes_of}
+use Rattle.qm_machine.specs.Facts.{Facts, AreSound, is_pauli, sizes_of}
 
 -- the text, its programs, the schedule so far, the halt where a step halted the machine, and the store
 pub record MachineView (A : Type 0) : Type 0 where
@@ -219,7 +219,7 @@ pub record IsKept (text : List ℕ) (p : Programs) (schedule : List ℕ) (h : Op
   pub paulis : f.paulis ≡ count_by is_pauli (replay p schedule).circuit
   pub parcels : (a : Lane) → lane_sends p a ≤ f.parcels a
   pub ranks : f.ranks ≡ length p.ranks
-  pub sound : IsSound f
+  pub sound : AreSound f
   pub wires : capacity_of p ≤ f.places.capacity
   pub sizes : f.sizes ≡ sizes_of p
   pub turns : event_total p ≤ room

@@ -16,7 +16,7 @@ use Rattle.qm_proto.specs.declared.Row.{Row}
 use Rattle.qm_proto.specs.Model.Rows.{letter_checks}
 use Rattle.qm_proto.specs.Model.Runs.{FirstFails, NoneFails, next_tables, next_letters}
 use Rattle.qm_proto.specs.May.{AllMayCheck}
-use Rattle.qm_machine.specs.Facts.{Facts, Can, Did, IsSound, is_pauli}
+use Rattle.qm_machine.specs.Facts.{Facts, Can, Did, AreSound, is_pauli}
 
 -- no test fails, for whichever circuit the store stands
 abbrev pub Passes : Facts → List Check → Type 0
@@ -32,12 +32,12 @@ Asked f checks None = Passes f checks
 Asked f checks (Some cause) = Stops f checks cause
 
 -- the tests that are asked before the acts: all but whether a `Had` fits, which its act tells
-abbrev pub asked : List Check → List Check
-asked [] = []
-asked (Possible w m ∷ ks) = Possible w m ∷ asked ks
-asked (Zero w ∷ ks) = Zero w ∷ asked ks
-asked (Equal w v ∷ ks) = Equal w v ∷ asked ks
-asked (Fits w ∷ ks) = asked ks
+abbrev pub checks_before_acts : List Check → List Check
+checks_before_acts [] = []
+checks_before_acts (Possible w m ∷ ks) = Possible w m ∷ checks_before_acts ks
+checks_before_acts (Zero w ∷ ks) = Zero w ∷ checks_before_acts ks
+checks_before_acts (Equal w v ∷ ks) = Equal w v ∷ checks_before_acts ks
+checks_before_acts (Fits w ∷ ks) = checks_before_acts ks
 
 -- the tests that acts tell themselves: whether a `Had` fits that is the only one
 abbrev pub told_by : List Act → List Check
@@ -73,7 +73,7 @@ AllOverflow _ s = ⊥
 
 -- a line that can be tried: its tests are those that are asked and then those that its acts tell
 pub record IsTriable (w : Row) : Type 0 where
-  pub checks : list_of w.checks ≡ asked (list_of w.checks) ++ told_by (list_of w.acts)
+  pub checks : list_of w.checks ≡ checks_before_acts (list_of w.checks) ++ told_by (list_of w.acts)
   pub sure : are_sure w.acts ≡ true
 
 -- rank r may do the acts of the line and make its tests, and the exponent can grow
@@ -101,7 +101,7 @@ Tried f r w answer g = MatchResult answer (λ _. WasDone f r w g) (λ cause. Was
 pub record Advanced (p : Programs) (f : Facts) (r : ℕ) (g : Facts) : Type 0 where
   pub tables : g.tables ≡ next_tables p f.tables r
   pub stands : (c : Circuit) → StandsFor f.store c → StandsFor g.store (c ++ next_letters p f.tables r)
-  pub sound : IsSound g
+  pub sound : AreSound g
   pub capacity : g.places.capacity ≡ f.places.capacity
   pub sizes : g.sizes ≡ f.sizes
   pub parcels : g.parcels ≡ f.parcels

@@ -3,8 +3,8 @@ ghost use Rattle.std.specs.Prelude.{◌≡◌, ◌↔◌, [], ◌∷◌, true, O
 ghost use Rattle.qm_denot.specs.Stores.{MayGrow};
 ghost use Rattle.qm_proto.specs.Model.Acts.{list_of};
 ghost use Rattle.qm_proto.specs.May.{MayCheck, AllMayCheck};
-ghost use Rattle.qm_machine.specs.Facts.{IsSound};
-ghost use Rattle.qm_machine.specs.Tries.{CanTry, Tried, Asked, asked, is_sure, are_sure, MayGrowBy, AllOverflow};
+ghost use Rattle.qm_machine.specs.Facts.{AreSound};
+ghost use Rattle.qm_machine.specs.Tries.{CanTry, Tried, Asked, checks_before_acts, is_sure, are_sure, MayGrowBy, AllOverflow};
 ghost use Rattle.qm_machine.specs.Views.{facts, tables, MayAct, Acted, MayDo, HasDone, IsUnchanged};
 
 use crate::body::Body;
@@ -15,9 +15,9 @@ use qm_proto::{Act, Cause, Check, Few, Row};
 /// The cause for which a test fails, where it does. Whether a `Had` fits is told by its act.
 fn failing<A: Amps>(body: &Body<A>, check: Check) -> Option<Cause>
     requires able { A.able }
-    requires sound { IsSound (facts A.store body.now) }
+    requires sound { AreSound (facts A.store body.now) }
     requires may { MayCheck (tables body.now.books) check }
-    ensures { Asked (facts A.store body.now) (asked (check ∷ [])) result }
+    ensures { Asked (facts A.store body.now) (checks_before_acts (check ∷ [])) result }
 {
     match check {
         Check::Possible { w, m } => unless(body.amps().can_be(w, m), Cause::Impossible),
@@ -30,9 +30,9 @@ fn failing<A: Amps>(body: &Body<A>, check: Check) -> Option<Cause>
 /// The cause for which the first test fails that does, but for the one whether a `Had` fits.
 fn first_failing<A: Amps>(body: &Body<A>, checks: Few<Check>) -> Option<Cause>
     requires able { A.able }
-    requires sound { IsSound (facts A.store body.now) }
+    requires sound { AreSound (facts A.store body.now) }
     requires may { AllMayCheck (tables body.now.books) (list_of checks) }
-    ensures { Asked (facts A.store body.now) (asked (list_of checks)) result }
+    ensures { Asked (facts A.store body.now) (checks_before_acts (list_of checks)) result }
 {
     match checks {
         Few::Empty => None,

@@ -6,7 +6,7 @@ ghost use Rattle.qm_denot.specs.Stores.{StandsFor, Overflows, MayGrow, MayApply,
 ghost use Rattle.qm_instr.specs.Programs.{IsInRange};
 ghost use Rattle.qm_mail.specs.Mails.{sends_on};
 ghost use Rattle.qm_proto.specs.declared.Act.TheVariants.{Fresh, Twin, Apply, SlotOut, NearOut, FarOut, Settle, Posts, Fills, Receives, OwnUsed, ProtocolUsed, FirstKept, BitSet};
-ghost use Rattle.qm_machine.specs.Facts.{moved, is_pauli, sizes_of, IsAtStart};
+ghost use Rattle.qm_machine.specs.Facts.{with_rank_moved, is_pauli, sizes_of, IsAtStart};
 ghost use Rattle.qm_machine.specs.Tries.{MayGrowBy, AllOverflow};
 
 use crate::books::Books;
@@ -285,7 +285,7 @@ impl<A: Amps> Body<A> {
         requires known { rank < rank_count self.old.books }
         requires at { ((tables self.old.books).parts rank).at + 1 < 2 ^ 32 }
         requires stage { ((tables self.old.books).parts rank).stage + 1 < 2 ^ 32 }
-        ensures { facts A.store self.new ≡ moved (facts A.store self.old) rank events }
+        ensures { facts A.store self.new ≡ with_rank_moved (facts A.store self.old) rank events }
     {
         self.books.ranks[usize::from(rank)].move_on(events);
     }

@@ -6,6 +6,7 @@ use Rattle.qm_instr.specs.declared.OneGate.TheVariants as one
 use Rattle.qm_parse.specs.declared.tree.Node.{Node}
 use Rattle.qm_parse.specs.declared.tree.What.{What}
 use Rattle.qm_parse.specs.declared.tree.What.TheVariants as what
+use Rattle.qm_parse.specs.declared.words.Action.{Action}
 use Rattle.qm_parse.specs.declared.words.Action.TheVariants as action
 use Rattle.qm_parse.specs.declared.words.Keyword.TheVariants as keyword
 use Rattle.qm_parse.specs.declared.words.Mark.TheVariants as mark
@@ -57,6 +58,22 @@ word_H = refl
 
 word_treecast : reserved_of version.One (codes "treecast") ≡ None
 word_treecast = refl
+
+word_untreecast : reserved_of version.One (codes "untreecast") ≡ None
+word_untreecast = refl
+
+-- in version 2 the tree forms are reserved, each with a slot, a root and a tag; their beginnings are names
+abbrev tree_verb : Action → Verb
+tree_verb does = record { action = does; operands = Some operand.Slot ∷ Some operand.Root ∷ Some operand.Tag ∷ None ∷ [] }
+
+newer_treecast : reserved_of version.Two (codes "treecast") ≡ Some (reserved.Verb (tree_verb action.Treecast))
+newer_treecast = refl
+
+newer_untreecast : reserved_of version.Two (codes "untreecast") ≡ Some (reserved.Verb (tree_verb action.Untreecast))
+newer_untreecast = refl
+
+newer_tree : reserved_of version.Two (codes "tree") ≡ None
+newer_tree = refl
 
 outcomes_word : bits_word (false ∷ true ∷ []) ≡ codes "b01"
 outcomes_word = refl

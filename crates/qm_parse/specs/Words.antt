@@ -99,7 +99,11 @@ older_words = instruction_words ++ collective_words ++ frame_words
 
 -- the words of version 2 that mean something else there, before which those of version 1 don't count
 abbrev pub newer_words : List Word
-newer_words = frame_word (codes "unreduce") keyword.Unreduce ∷ []
+newer_words =
+    frame_word (codes "unreduce") keyword.Unreduce
+    ∷ verb_word (codes "treecast") action.Treecast (Slot ∷ Root ∷ Tag ∷ [])
+    ∷ verb_word (codes "untreecast") action.Untreecast (Slot ∷ Root ∷ Tag ∷ [])
+    ∷ []
 
 -- all reserved words of a version
 abbrev pub words : Version → List Word

@@ -94,6 +94,10 @@ pub enum Action {
     Ungather,
     Reduce,
     Unreduce,
+    /// The word `treecast` of version 2.
+    Treecast,
+    /// The word `untreecast` of version 2.
+    Untreecast,
 }
 
 impl Action {

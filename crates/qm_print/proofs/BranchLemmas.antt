@@ -1,13 +1,9 @@
 -- Branches that go on over slots and come back, and the lines that are written of them
-use Rattle.std.proofs.Common.{◌≡◌, ℕ, ◌+◌, ◌-◌, ◌<◌, ◌≤◌, true, false, List, [], ◌∷◌, ◌++◌, length, take, drop, get_or, map, All, Contains, refl, sym, ◌∙◌, ap, subst, arith, append_assoc, length-append, Decides, ℤ, pos, negsuc}
+use Rattle.std.proofs.Common.{◌≡◌, ℕ, ◌+◌, ◌-◌, ◌≤◌, true, false, List, [], ◌∷◌, ◌++◌, length, take, drop, get_or, map, All, Contains, refl, sym, ◌∙◌, ap, subst, arith, append_assoc, length-append, Decides, pos}
 use Rattle.std.proofs.lemmas.Bool.Decides.{Decides-and, Decides-int_eq, Decides-like}
-use Rattle.std.proofs.lemmas.Int.{to_z-of_z}
 use Rattle.std.proofs.lemmas.List.Elements.{All-nil, All-head, All-tail, All-cons}
 use Rattle.std.proofs.Math.Seq.{take-append_seam, take-length}
-use mir.Syntax.{w128}
-use mir.Val.{of_z, to_z}
 use Rattle.qm_zomega.specs.Numbers.{Number, zero_number}
-use Rattle.qm_zomega.specs.Range.{IsInRange}
 use Rattle.qm_zomega.proofs.Laws.{same}
 use Rattle.qm_denot.specs.declared.Wire.{Wire}
 use Rattle.qm_denot.specs.Wires.{Wires, put, no_wires}
@@ -27,11 +23,6 @@ Decides-is_zero_number z =
     Decides-like _ (λ p. same z zero_number p.0 p.1.0 p.1.1.0 p.1.1.1)
     (λ e. (ap (λ (w : Number). w.a) e, (ap (λ (w : Number). w.b) e, (ap (λ (w : Number). w.c) e, ap (λ (w : Number). w.d) e))))
     (Decides-and _ _ (Decides-int_eq z.a (pos 0)) (Decides-and _ _ (Decides-int_eq z.b (pos 0)) (Decides-and _ _ (Decides-int_eq z.c (pos 0)) (Decides-int_eq z.d (pos 0)))))
-
--- a component that is passed on is itself
-pub component-passed : (x : ℤ) → IsInRange x → to_z w128 (of_z w128 x) ≡ x
-component-passed (pos n) h = to_z-of_z w128 (pos n) (record { sfits = h })
-component-passed (negsuc n) h = to_z-of_z w128 (negsuc n) (record { sfits = omega arith })
 
 -- ---- the wires of a branch that goes on
 -- the wires of a list and one more
@@ -121,10 +112,6 @@ zero_may_go_on live a ss some g = GoesOn-zero live a (get_or ss 0 some_slot) (re
 -- and where it is one
 pub one_may_go_on : (live : List Wire) (a : BranchView) (ss : List Live) (d : Live) → 1 ≤ length ss → GoesOn live a ss → GoesOn live (one_entered a (get_or ss 0 d).wire) (rest_of ss)
 one_may_go_on live a ss d some g = GoesOn-one live a (get_or ss 0 d) (rest_of ss) (subst (GoesOn live a) (first_and_rest ss d some) g)
-
--- there is room for a slot more
-pub room_left : (live : List Wire) (a : BranchView) (ss : List Live) → 1 ≤ length ss → GoesOn live a ss → (length a.bits < 22) × (length a.ones < 22)
-room_left live a ss some g = (omega (arith, g.bits_few), omega (arith, g.ones_few))
 
 -- the lines of the branches where the first slot is zero, and then of those where it is one
 pub lines_by_first : (u : Amplitudes) (a : BranchView) (ss : List Live) (d : Live) → 1 ≤ length ss → branch_lines u a.bits (wires_of a.ones) ss

@@ -1,5 +1,5 @@
 -- Where the ranks stand after each turn, and which event is next there
-use Rattle.std.proofs.Common.{◌≡◌, ◌∙◌, ℕ, zero, suc, ◌+◌, ◌<◌, ◌≤◌, nat_lt, cond, Bool, true, false, is_some, List, [], ◌∷◌, ◌++◌, length, take, drop, map, fold, get_or, set, replicate, Option, Some, None, slice_get, option_map, refl, sym, ap, ap₂, subst, arith, add-one, append_assoc, drop-cons}
+use Rattle.std.proofs.Common.{◌≡◌, ◌∙◌, ℕ, suc, ◌+◌, ◌<◌, ◌≤◌, nat_lt, cond, Bool, true, false, is_some, List, [], ◌∷◌, ◌++◌, length, take, drop, map, fold, get_or, set, Option, Some, None, slice_get, option_map, refl, sym, ap, ap₂, subst, arith, add-one, append_assoc, drop-cons}
 use Rattle.std.proofs.lemmas.List.{length-set, get_or-set_same, get_or-set_other, append-nil, take_more, take-append-drop}
 use Rattle.std.proofs.lemmas.Option.{slice_get-map, slice_get_within}
 use Rattle.std.proofs.lemmas.List.Sums.{fold_push, get_or-le-sum_by}
@@ -10,16 +10,16 @@ use Rattle.qm_proto.specs.declared.Event.{Event}
 use Rattle.qm_proto.specs.declared.Row.{Row}
 use Rattle.qm_proto.specs.Events.{events_in}
 use Rattle.qm_proto.specs.Model.Rows.{rows, current, instr_at}
-use Rattle.qm_proto.specs.Model.Runs.{row_in, row_next, row_holds, enabled, events_at, next_tables, next}
+use Rattle.qm_proto.specs.Model.Runs.{row_in, row_next, enabled, events_at, next_tables, next}
 use Rattle.qm_proto.specs.Model.Schedules.{IsLegalFrom, state_at_start}
 use Rattle.qm_proto.specs.Model.State.{Tables, State, with_at}
 use Rattle.qm_proto.proofs.Changes.{by_number, with_at-here, with_at-elsewhere}
 use Rattle.qm_confluence.specs.Stuck.Shapes.{Shape}
-use Rattle.qm_ideal.specs.Meetings.{Stand, stand_of, shape_next, gone}
+use Rattle.qm_ideal.specs.Meetings.{Stand, stand_of, shape_next, stand_past}
 use Rattle.qm_ideal.proofs.MeetingLemmas.{left_same, next_same}
-use Rattle.qm_print.specs.declared.blocks.Place.{Place}
+use Rattle.qm_print.specs.declared.blocks.Position.{Position}
 use Rattle.qm_print.specs.Blocks.{row_name, event_name, event_line, event_lines}
-use Rattle.qm_print.specs.Walks.{first_place, place_at, event_in, event_at, place_after, StandsIn}
+use Rattle.qm_print.specs.Walks.{first_position, position_at, event_in, event_at, position_after, StandsIn}
 use Rattle.qm_proto.proofs.Counting.{event_where_held}
 
 -- ---- the event that is next
@@ -54,19 +54,15 @@ name_of_row : (o : Option Row) (e : Event) → option_map event_of o ≡ Some e 
 name_of_row None e h = cc
 name_of_row (Some w) e h = let same : w.event ≡ e = cc in ap event_name same
 
-some_row : (p : Programs) (t : Tables) (o : Option Row) → row_holds p t o ≡ true → (w : Row) × (o ≡ Some w)
-some_row p t None h = cc
-some_row p t (Some w) h = (w, refl)
-
 -- ---- where the ranks stand
-module _ (p : Programs) (places : List Place) (t : Tables) (r : ℕ) (known : r < length p.ranks) (stands : StandsIn p places t) where
-  abbrev place : Place
-  place = place_at places r
+module _ (p : Programs) (positions : List Position) (t : Tables) (r : ℕ) (known : r < length p.ranks) (stands : StandsIn p positions t) where
+  abbrev position : Position
+  position = position_at positions r
 
-  next_event : event_at p r place ≡ option_map event_of (row_next p t r)
+  next_event : event_at p r position ≡ option_map event_of (row_next p t r)
   next_event = rw (stands.at r known, stands.stage r known) (row_event p t r (current p t r))
 
-  pub name_there : (e : Event) → event_at p r place ≡ Some e → row_name (row_next p t r) ≡ event_name e
+  pub name_there : (e : Event) → event_at p r position ≡ Some e → row_name (row_next p t r) ≡ event_name e
   name_there e h = name_of_row (row_next p t r) e (sym next_event ∙ h)
 
 -- ---- after a turn
@@ -74,11 +70,11 @@ is_some_cases : {T : Type 0} (o : Option T) → is_some o ≡ true → (x : T) �
 is_some_cases None h = cc
 is_some_cases (Some x) h = (x, refl)
 
-after_at : (b : Bool) (x y : Place) → (cond b x y).at ≡ cond b x.at y.at
+after_at : (b : Bool) (x y : Position) → (cond b x y).at ≡ cond b x.at y.at
 after_at true x y = refl
 after_at false x y = refl
 
-after_stage : (b : Bool) (x y : Place) → (cond b x y).stage ≡ cond b x.stage y.stage
+after_stage : (b : Bool) (x y : Position) → (cond b x y).stage ≡ cond b x.stage y.stage
 after_stage true x y = refl
 after_stage false x y = refl
 
@@ -90,8 +86,8 @@ module _ (p : Programs) (t : Tables) (r : ℕ) (able : enabled p t r ≡ true) w
   some_shape : (w : Shape) × (shape_next (instr_at p) (stand_of t) r ≡ Some w)
   some_shape = is_some_cases _ (sym (left_same p t r) ∙ event_where_held p t (row_next p t r) able)
 
-  stand_after : stand_of (next_tables p t r) ≡ gone (events_at (current p t r)) (stand_of t) r (Some some_shape.0)
-  stand_after = next_same p t r ∙ ap (gone (events_at (current p t r)) (stand_of t) r) some_shape.1
+  stand_after : stand_of (next_tables p t r) ≡ stand_past (events_at (current p t r)) (stand_of t) r (Some some_shape.0)
+  stand_after = next_same p t r ∙ ap (stand_past (events_at (current p t r)) (stand_of t) r) some_shape.1
 
   at_after : (k : ℕ) → ((next_tables p t r).parts k).at ≡ with_at (λ j. (t.parts j).at) r (cond more (t.parts r).at ((t.parts r).at + 1)) k
   at_after k = ap (λ (s : Stand). s.at k) stand_after
@@ -99,26 +95,26 @@ module _ (p : Programs) (t : Tables) (r : ℕ) (able : enabled p t r ≡ true) w
   stage_after : (k : ℕ) → ((next_tables p t r).parts k).stage ≡ with_at (λ j. (t.parts j).stage) r (cond more ((t.parts r).stage + 1) 0) k
   stage_after k = ap (λ (s : Stand). s.stage k) stand_after
 
-  module _ (places : List Place) (known : r < length p.ranks) (stands : StandsIn p places t) where
-    here_at : (place_after p r (place_at places r)).at ≡ cond more (t.parts r).at ((t.parts r).at + 1)
-    here_at = after_at (nat_lt ((place_at places r).stage + 1) (events_at (instr_at p r (place_at places r).at))) (record { at = (place_at places r).at; stage = (place_at places r).stage + 1 }) (record { at = (place_at places r).at + 1; stage = 0 }) ∙ ap₂ (λ i j. cond (nat_lt (j + 1) (events_at (instr_at p r i))) i (i + 1)) (stands.at r known) (stands.stage r known)
+  module _ (positions : List Position) (known : r < length p.ranks) (stands : StandsIn p positions t) where
+    here_at : (position_after p r (position_at positions r)).at ≡ cond more (t.parts r).at ((t.parts r).at + 1)
+    here_at = after_at (nat_lt ((position_at positions r).stage + 1) (events_at (instr_at p r (position_at positions r).at))) (record { at = (position_at positions r).at; stage = (position_at positions r).stage + 1 }) (record { at = (position_at positions r).at + 1; stage = 0 }) ∙ ap₂ (λ i j. cond (nat_lt (j + 1) (events_at (instr_at p r i))) i (i + 1)) (stands.at r known) (stands.stage r known)
 
-    here_stage : (place_after p r (place_at places r)).stage ≡ cond more ((t.parts r).stage + 1) 0
-    here_stage = after_stage (nat_lt ((place_at places r).stage + 1) (events_at (instr_at p r (place_at places r).at))) (record { at = (place_at places r).at; stage = (place_at places r).stage + 1 }) (record { at = (place_at places r).at + 1; stage = 0 }) ∙ ap₂ (λ i j. cond (nat_lt (j + 1) (events_at (instr_at p r i))) (j + 1) 0) (stands.at r known) (stands.stage r known)
+    here_stage : (position_after p r (position_at positions r)).stage ≡ cond more ((t.parts r).stage + 1) 0
+    here_stage = after_stage (nat_lt ((position_at positions r).stage + 1) (events_at (instr_at p r (position_at positions r).at))) (record { at = (position_at positions r).at; stage = (position_at positions r).stage + 1 }) (record { at = (position_at positions r).at + 1; stage = 0 }) ∙ ap₂ (λ i j. cond (nat_lt (j + 1) (events_at (instr_at p r i))) (j + 1) 0) (stands.at r known) (stands.stage r known)
 
-    -- the ranks stand where the places say after the turn
-    pub StandsIn-next : StandsIn p (set places r (place_after p r (place_at places r))) (next_tables p t r)
+    -- the ranks stand where the positions say after the turn
+    pub StandsIn-next : StandsIn p (set positions r (position_after p r (position_at positions r))) (next_tables p t r)
     StandsIn-next =
-        let x = place_after p r (place_at places r) in
-        let within : r < length places = omega (arith, stands.all) in
+        let x = position_after p r (position_at positions r) in
+        let within : r < length positions = omega (arith, stands.all) in
         record {
-          all = length-set places r x ∙ stands.all;
-          at = λ k k_known. by_number (λ j. j < length p.ranks → (get_or (set places r x) j first_place).at ≡ ((next_tables p t r).parts j).at) r
-              (λ _. ap (λ (y : Place). y.at) (get_or-set_same places r x first_place within) ∙ here_at ∙ sym (at_after r ∙ with_at-here (λ j. (t.parts j).at) r _))
-              (λ j other j_known. ap (λ (y : Place). y.at) (get_or-set_other places r j x first_place other) ∙ stands.at j j_known ∙ sym (at_after j ∙ with_at-elsewhere (λ i. (t.parts i).at) r _ j other)) k k_known;
-          stage = λ k k_known. by_number (λ j. j < length p.ranks → (get_or (set places r x) j first_place).stage ≡ ((next_tables p t r).parts j).stage) r
-              (λ _. ap (λ (y : Place). y.stage) (get_or-set_same places r x first_place within) ∙ here_stage ∙ sym (stage_after r ∙ with_at-here (λ j. (t.parts j).stage) r _))
-              (λ j other j_known. ap (λ (y : Place). y.stage) (get_or-set_other places r j x first_place other) ∙ stands.stage j j_known ∙ sym (stage_after j ∙ with_at-elsewhere (λ i. (t.parts i).stage) r _ j other)) k k_known;
+          all = length-set positions r x ∙ stands.all;
+          at = λ k k_known. by_number (λ j. j < length p.ranks → (get_or (set positions r x) j first_position).at ≡ ((next_tables p t r).parts j).at) r
+              (λ _. ap (λ (y : Position). y.at) (get_or-set_same positions r x first_position within) ∙ here_at ∙ sym (at_after r ∙ with_at-here (λ j. (t.parts j).at) r _))
+              (λ j other j_known. ap (λ (y : Position). y.at) (get_or-set_other positions r j x first_position other) ∙ stands.at j j_known ∙ sym (at_after j ∙ with_at-elsewhere (λ i. (t.parts i).at) r _ j other)) k k_known;
+          stage = λ k k_known. by_number (λ j. j < length p.ranks → (get_or (set positions r x) j first_position).stage ≡ ((next_tables p t r).parts j).stage) r
+              (λ _. ap (λ (y : Position). y.stage) (get_or-set_same positions r x first_position within) ∙ here_stage ∙ sym (stage_after r ∙ with_at-here (λ j. (t.parts j).stage) r _))
+              (λ j other j_known. ap (λ (y : Position). y.stage) (get_or-set_other positions r j x first_position other) ∙ stands.stage j j_known ∙ sym (stage_after j ∙ with_at-elsewhere (λ i. (t.parts i).stage) r _ j other)) k k_known;
         }
 
 -- ---- a schedule's lines, turn by turn
@@ -136,11 +132,11 @@ event_lines-append p s (q ∷ qs) rs =
     ap (λ x. line ++ x) (event_lines-append p (next p s q) qs rs) ∙ sym (append_assoc line (event_lines p (next p s q) qs) (event_lines p (fold (next p) (next p s q) qs) rs))
 
 -- the run has come through n turns of a legal schedule, and the ranks stand so
-pub record HasWalked (p : Programs) (schedule : List ℕ) (n : ℕ) (places : List Place) : Type 0 where
-  pub stands : StandsIn p places (fold (next p) (state_at_start p) (take n schedule)).tables
+pub record HasWalked (p : Programs) (schedule : List ℕ) (n : ℕ) (positions : List Position) : Type 0 where
+  pub stands : StandsIn p positions (fold (next p) (state_at_start p) (take n schedule)).tables
   pub legal : IsLegalFrom p (fold (next p) (state_at_start p) (take n schedule)) (drop n schedule)
 
-module _ (p : Programs) (schedule : List ℕ) (n : ℕ) (places : List Place) (more : n < length schedule) (walked : HasWalked p schedule n places) where
+module _ (p : Programs) (schedule : List ℕ) (n : ℕ) (positions : List Position) (more : n < length schedule) (walked : HasWalked p schedule n positions) where
   abbrev rank : ℕ
   rank = get_or schedule n 0
 
@@ -156,18 +152,18 @@ module _ (p : Programs) (schedule : List ℕ) (n : ℕ) (places : List Place) (m
   state_next : fold (next p) (state_at_start p) (take (n + 1) schedule) ≡ next p state rank
   state_next = ap (fold (next p) (state_at_start p)) (take_more schedule n 0 more) ∙ fold_push (next p) (state_at_start p) (take n schedule) rank
 
-  pub HasWalked-next : HasWalked p schedule (n + 1) (set places rank (place_after p rank (place_at places rank)))
+  pub HasWalked-next : HasWalked p schedule (n + 1) (set positions rank (position_after p rank (position_at positions rank)))
   HasWalked-next = record {
-    stands = subst (λ (s : State). StandsIn p (set places rank (place_after p rank (place_at places rank))) s.tables) (sym state_next) (StandsIn-next p state.tables rank legal_here.0.able places rank_known walked.stands);
+    stands = subst (λ (s : State). StandsIn p (set positions rank (position_after p rank (position_at positions rank))) s.tables) (sym state_next) (StandsIn-next p state.tables rank legal_here.0.able positions rank_known walked.stands);
     legal = rw (state_next, add-one n) legal_here.1;
   }
 
   -- the line of this turn
-  pub lines_next : (e : Event) → event_at p rank (place_at places rank) ≡ Some e
+  pub lines_next : (e : Event) → event_at p rank (position_at positions rank) ≡ Some e
       → event_lines p (state_at_start p) (take (n + 1) schedule) ≡ event_lines p (state_at_start p) (take n schedule) ++ event_line rank (event_name e)
   lines_next e h =
       ap (event_lines p (state_at_start p)) (take_more schedule n 0 more) ∙ event_lines-push p (state_at_start p) (take n schedule) rank
-      ∙ ap (λ name. event_lines p (state_at_start p) (take n schedule) ++ event_line rank name) (name_there p places state.tables rank rank_known walked.stands e h)
+      ∙ ap (λ name. event_lines p (state_at_start p) (take n schedule) ++ event_line rank name) (name_there p positions state.tables rank rank_known walked.stands e h)
 
   -- and all lines begin with those up to it
   pub lines_so_far : event_lines p (state_at_start p) schedule
@@ -175,11 +171,6 @@ module _ (p : Programs) (schedule : List ℕ) (n : ℕ) (places : List Place) (m
   lines_so_far = ap (event_lines p (state_at_start p)) (sym (take-append-drop (n + 1) schedule)) ∙ event_lines-append p (state_at_start p) (take (n + 1) schedule) (drop (n + 1) schedule)
 
 -- ---- the start
-first_places : (n m k : ℕ) → get_or (take n (replicate m first_place)) k first_place ≡ first_place
-first_places zero m k = refl
-first_places (suc n) zero k = refl
-first_places (suc n) (suc m) zero = refl
-first_places (suc n) (suc m) (suc k) = first_places n m k
 
 -- an instruction's number is small
 pub few_instructions : (p : Programs) (r k : ℕ) (i : Instr) → r < length p.ranks → IsInRange p → instr_at p r k ≡ Some i → k < 100000

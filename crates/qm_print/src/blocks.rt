@@ -5,7 +5,7 @@ ghost use Rattle.qm_instr.specs.Programs.{IsInRange};
 ghost use Rattle.qm_proto.specs.Model.Schedules.{IsLegal, IsLegalFrom, state_at_start, tables_at_start};
 ghost use Rattle.qm_print.specs.Blocks.{event_line, event_lines, event_name, TurnsLaw, trace_block, turn_line, turn_lines, turns_block, turns_head};
 ghost use Rattle.qm_print.specs.Gathering.{Gathers};
-ghost use Rattle.qm_print.specs.Walks.{StandsIn, event_at, place_after};
+ghost use Rattle.qm_print.specs.Walks.{StandsIn, event_at, position_after};
 
 use crate::RANKS;
 use crate::page::{Page, Piece};
@@ -16,30 +16,30 @@ use qm_proto::{Event, has_event_after, next_event};
 
 /// Where a rank stands: the number of its next instruction, and how many events of that it has had.
 #[derive(Clone, Copy)]
-pub(crate) struct Place {
+pub(crate) struct Position {
     at: u32,
     stage: u32,
 }
 
-/// The event that a rank has next at a place; the place goes on behind it.
-fn pass(input: &Input, rank: u16, place: &mut Place) -> Event
+/// The event that a rank has next at a position; the position goes on behind it.
+fn pass(input: &Input, rank: u16, position: &mut Position) -> Event
     requires known { rank < length input.now.ranks }
-    requires left { IsSome (event_at input.now rank place.old) }
+    requires left { IsSome (event_at input.now rank position.old) }
     requires in_range { IsInRange input.now }
-    ensures event { event_at input.now rank place.old ≡ Some result }
-    ensures place { place.new ≡ place_after input.now rank place.old }
+    ensures event { event_at input.now rank position.old ≡ Some result }
+    ensures position { position.new ≡ position_after input.now rank position.old }
 {
-    let Some(instr) = input.instr(rank, place.at) else {
+    let Some(instr) = input.instr(rank, position.at) else {
         unreachable!();
     };
-    let Some(event) = next_event(instr, place.stage) else {
+    let Some(event) = next_event(instr, position.stage) else {
         unreachable!();
     };
-    if has_event_after(place.stage, event_count(instr)) {
-        place.stage += 1;
+    if has_event_after(position.stage, event_count(instr)) {
+        position.stage += 1;
     } else {
-        *place = Place {
-            at: place.at + 1,
+        *position = Position {
+            at: position.at + 1,
             stage: 0,
         };
     }
@@ -47,7 +47,7 @@ fn pass(input: &Input, rank: u16, place: &mut Place) -> Event
 }
 
 /// The printed name of an event.
-fn event_name(event: Event) -> &'static [u8]
+pub fn event_name(event: Event) -> &'static [u8]
     ensures { result.now ≡ event_name event }
 {
     match event {
@@ -152,16 +152,16 @@ fn add_events<O: Sink>(
     sink: &mut O,
     input: &Input,
     schedule: &[u32],
-    places: &mut [Place],
+    positions: &mut [Position],
 ) -> Result<(), Failed>
     requires in_range { IsInRange input.now }
     requires legal { IsLegalFrom input.now (state_at_start input.now) schedule.now }
-    requires stands { StandsIn input.now places.old (tables_at_start input.now) }
+    requires stands { StandsIn input.now positions.old (tables_at_start input.now) }
     ensures { Gathers (O.seen sink.old) (O.seen sink.new) page.old page.new
         (event_lines input.now (state_at_start input.now) schedule.now) result }
 {
     for rank in schedule {
-        let event = pass(input, *rank as u16, &mut places[*rank as usize]);
+        let event = pass(input, *rank as u16, &mut positions[*rank as usize]);
         add_event(page, sink, *rank, event)?;
     }
     Ok(())
@@ -178,10 +178,10 @@ fn add_trace<O: Sink>(
     ensures { Gathers (O.seen sink.old) (O.seen sink.new) page.old page.new
         (trace_block input.now schedule.now) result }
 {
-    let mut places = [Place { at: 0, stage: 0 }; RANKS];
-    let places = &mut places[..usize::from(input.ranks())];
+    let mut positions = [Position { at: 0, stage: 0 }; RANKS];
+    let positions = &mut positions[..usize::from(input.ranks())];
     add_turns_head(page, sink, schedule.len())?;
-    add_events(page, sink, input, schedule, places)?;
+    add_events(page, sink, input, schedule, positions)?;
     page.put(sink, b"end\n")
 }
 

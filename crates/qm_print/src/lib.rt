@@ -14,7 +14,7 @@ mod lines;
 mod page;
 mod state;
 
-pub use blocks::{put_trace, put_turns, turns_law};
+pub use blocks::{event_name, put_trace, put_turns, turns_law};
 pub use check::put_check;
 pub use circuit::put_circuit;
 pub use fault::put_fault;

@@ -28,9 +28,6 @@ module _ {A : Type 0} (d : Desk (Playing A)) (done : List (Done A)) (each : Each
       let x = from_map (λ (y : Done A). y.pass) done k p (ap (λ ps. slice_get ps k) (sym is) ∙ e) in
       subst (IsReady d k) x.2 (each k x.0 x.1).ready
 
-  pub same_count : (passes : List (Pass (Playing A))) → passes ≡ passes_of done → length passes ≡ length done
-  same_count passes is = ap (λ ps. length ps) is ∙ length-map done (λ (y : Done A). y.pass)
-
   -- their exits, over the schedule that the desk has when it closes, and whatever comes after it
   module _ (passes : List (Pass (Playing A))) (is : passes ≡ passes_of done) (schedule : List ℕ)
       (seen : EachPass (λ _ p. StartsWith schedule (pass_seen p)) passes) (counts : EachPass (λ k p. times k schedule ≡ pass_count p) passes) where

@@ -1,10 +1,10 @@
-pub mod Around
-pub mod Turning
-pub mod Playing
+mod Around
+mod Turning
+mod Playing
 pub mod Orders
 pub mod Existing
-pub mod Mapped
-pub mod TakingTurns
-pub mod Leaving
-pub mod Finishing
-pub mod NewPasses
+mod Mapped
+mod TakingTurns
+mod Leaving
+mod Finishing
+mod NewPasses

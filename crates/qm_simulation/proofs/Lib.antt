@@ -2,4 +2,6 @@ mod Following
 mod WorkedProgress
 mod Weighing
 mod Headline
+mod Possible
+mod Tapes
 pub mod Laws

@@ -2,3 +2,4 @@ pub mod Following
 pub mod WorkedProgress
 pub mod Weighing
 pub mod Headline
+pub mod Outcomes

@@ -3,6 +3,7 @@
 #![tactic(auto)]
 
 pub mod one_circuit;
+pub mod outcomes;
 pub mod progress;
 pub mod simulation;
 pub mod weights;

@@ -30,6 +30,8 @@ mod scale;
 #[cfg(test)]
 mod seed;
 #[cfg(test)]
+mod sizes;
+#[cfg(test)]
 mod store;
 #[cfg(test)]
 mod stores;
@@ -37,5 +39,7 @@ mod stores;
 mod tables;
 #[cfg(test)]
 mod tape;
+#[cfg(test)]
+mod tree;
 #[cfg(test)]
 mod zomega;

@@ -1,5 +1,6 @@
 //! Texts and what they are read as, and the line of each first fault.
 mod sizes;
+mod trees;
 mod words;
 
 use qm_expand::{ReadError, read};

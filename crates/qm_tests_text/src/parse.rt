@@ -135,7 +135,7 @@ fn the_first_fault_of_a_frame_is_told(rt: HostRuntime) -> Result<(), Fail> {
 
 #[test]
 fn each_rank_of_version_2_has_its_sizes(rt: HostRuntime) -> Result<(), Fail> {
-    let rows: [Row; 19] = [
+    let rows: [Row; 25] = [
         ("qmpi 2 ranks 1 qubits 16 buffer 8 all end", None),
         ("qmpi 02 ranks 3 qubits 1 16 7 buffer 8 1 08 all end", None),
         ("qmpi 2 ranks 2 qubits 1\n16 buffer 8", unended(2)),
@@ -164,6 +164,30 @@ fn each_rank_of_version_2_has_its_sizes(rt: HostRuntime) -> Result<(), Fail> {
             unexpected(2),
         ),
         (
+            "qmpi 2 ranks 1 qubits 1 buffer 1 all treecast 0 0 5 untreecast 0 0 6 end",
+            None,
+        ),
+        (
+            "qmpi 2 ranks 1 qubits 1 buffer 1 all for\ntreecast in 0..1 { } end",
+            unexpected(2),
+        ),
+        (
+            "qmpi 2 ranks 1 qubits 1 buffer 1 all for\nuntreecast in 0..1 { } end",
+            unexpected(2),
+        ),
+        (
+            "qmpi 2 ranks 1 qubits 1 buffer 1 all for tree in 0..1 { alloc treecasts } end",
+            None,
+        ),
+        (
+            "qmpi 2 ranks 1 qubits 1 buffer 1 all treecast 0 0\nend",
+            unexpected(2),
+        ),
+        (
+            "qmpi 2 ranks 1 qubits 1 buffer 1 all treecast 0 0 5\n6 end",
+            unexpected(2),
+        ),
+        (
             "qmpi 2 ranks 2 qubits 3 3 buffer 1 1 all for\nunreduce in 0..1 { } end",
             unexpected(2),
         ),
@@ -182,7 +206,7 @@ fn framed(alloc: Global, body: &str) -> Result<String, Fail> {
 
 #[test]
 fn the_first_fault_of_a_body_is_told(rt: HostRuntime) -> Result<(), Fail> {
-    let rows: [Row; 43] = [
+    let rows: [Row; 45] = [
         ("alloc 0", None),
         ("alloc b01 free i x H", None),
         ("cx 1 2 cz rank size", None),
@@ -231,6 +255,8 @@ fn the_first_fault_of_a_body_is_told(rt: HostRuntime) -> Result<(), Fail> {
         ("for t in 0..2 { }", unexpected(1)),
         ("for rank in 0..2 { }", unexpected(1)),
         ("for treecast in 0..2 { alloc untreecast }", None),
+        ("for untreecast in treecast..2 { }", None),
+        ("treecast 0 0 5", unexpected(1)),
         ("for i in 0 3 { }", unexpected(1)),
         ("for i 0..3 { }", unexpected(1)),
         ("for i in 0..3 alloc i", unexpected(1)),

@@ -1,6 +1,7 @@
 //! Whole commands over sources and sinks in memory.
 
 mod calls;
+mod costs;
 mod ends;
 mod halves;
 mod made;
@@ -13,5 +14,6 @@ mod sizes;
 mod states;
 mod texts;
 mod threads;
+mod trees;
 mod watched;
 mod words;

@@ -11,13 +11,16 @@ use Rattle.qm_proto.specs.Model.Ideal.{ideal_replay}
 use Rattle.qm_proto.proofs.Firsts.{one_run_unique}
 use Rattle.qm_ideal.specs.OneCircuits.{OneView, IsOneCircuit}
 use Rattle.qm_eval.specs.Overflows.{IsFirstOverflow, NeverOverflows}
+use Rattle.qm_cost.specs.declared.Delays.{Delays}
+use Rattle.qm_cost.proofs.Existing.{one_report}
 use Rattle.qm_tool.specs.declared.command.Command.{Command}
 use Rattle.qm_tool.specs.declared.command.Command.TheVariants as command
 use Rattle.qm_tool.specs.declared.command.Play.{Play}
 use Rattle.qm_tool.specs.declared.command.Recipe.{Recipe}
 use Rattle.qm_print.specs.declared.FaultLine.TheVariants as line
 use Rattle.qm_tool.specs.declared.status.Status.{Status}
-use Rattle.qm_tool.specs.Commands.{block_of, kind_word, made_of, order_words, plain, text_or}
+use Rattle.qm_tool.specs.Commands.{block_of, kind_word, made_of, order_words, plain, seeded, text_or}
+use Rattle.qm_tool.specs.CostText.{cost_text}
 use Rattle.qm_tool.specs.Dues.{IsScheduleOf, IsTurnAfter}
 use Rattle.qm_print.specs.CheckText.{check_text}
 use Rattle.qm_print.specs.FaultText.{fault_text}
@@ -26,7 +29,7 @@ use Rattle.qm_print.specs.JobText.{job_text}
 use Rattle.qm_print.specs.StateText.{line_count, state_lines, IsStateText}
 use Rattle.qm_instr.specs.Bits.{number_of_bits}
 use Rattle.qm_check.specs.Checks.{most_capacity}
-use Rattle.qm_tool.specs.Due.{IsTextAfter, IsJobText, IsOneText, RunsTo, WorksTo, RefusedWith, IsCircuitText, WaitsWith, WideWith, OverflowsWith, IsCheckText, ReadsReady, DueReady, Ends, Stops, Works, Breaks, Draws, DrawsNone, Values, ValuesNone, TooWide, Overflows, Checks, DueOf, Made, Refused, Ready, NoCommand, TooMuch, Whole, IsSettled, OneAnswer}
+use Rattle.qm_tool.specs.Due.{IsTextAfter, IsCostText, IsJobText, IsOneText, RunsTo, CostsTo, WorksTo, RefusedWith, IsCircuitText, WaitsWith, WideWith, OverflowsWith, IsCheckText, ReadsReady, DueReady, Ends, Stops, Works, Breaks, Costs, CostsNone, Draws, DrawsNone, Values, ValuesNone, TooWide, Overflows, Checks, DueOf, Made, Refused, Ready, NoCommand, TooMuch, Whole, IsSettled, OneAnswer}
 use Rattle.qm_tool.proofs.DueLemmas.{one_due, one_schedule_of, one_turn_after}
 use Rattle.qm_tool.proofs.EndLemmas.{same_circuit_text}
 use Rattle.qm_tool.proofs.OneViews.{same_width, same_letters, ends_or_early, same_left}
@@ -61,6 +64,10 @@ job_text_one r p schedule a b s t =
     (record { size = r.size; number = r.number; events = length schedule; protocol = protocol_total p; scale = k; lines = line_count u (full_slots p left.tables.slots) }) in
     s.whole ∙ ap (with_form s.exponent) (fun_ext same.1) ∙ ap (λ k. with_form k t.numerators) same.0 ∙ sym t.whole
 
+-- and one cost text
+cost_text_one : (d : Delays) (p : Programs) (schedule a b : List ℕ) → IsCostText d p schedule a → IsCostText d p schedule b → a ≡ b
+cost_text_one d p schedule a b s t = s.whole ∙ ap (cost_text (length schedule)) (one_report p schedule d s.report t.report s.so t.so) ∙ sym t.whole
+
 same_truth : (b c : Bool) (P : Type 0) → IsTrue b ↔ P → IsTrue c ↔ P → b ≡ c
 same_truth true true P f g = refl
 same_truth false false P f g = refl
@@ -80,6 +87,9 @@ module _ (p : Programs) (a b : List ℕ) where
 
   works_one : (r : Recipe) (ok so : Bool) → WorksTo ok r p a → WorksTo so r p b → (ok ≡ so) × (a ≡ b)
   works_one r ok so e f = RunsTo-one plain (IsJobText r) (job_text_one r p) (λ none. absurd (none-some _ (sym none))) ok so e f
+
+  costs_one : (seed : ℕ) (d : Delays) (ok so : Bool) → CostsTo ok seed d p a → CostsTo so seed d p b → (ok ≡ so) × (a ≡ b)
+  costs_one seed d ok so e f = RunsTo-one (seeded seed) (IsCostText d) (cost_text_one d p) (λ none. absurd (none-some _ (sym none))) ok so e f
 
   draws_one : IsCircuitText p a → IsCircuitText p b → a ≡ b
   draws_one e f = e.whole ∙ same_circuit_text p e.circuit f.circuit e.one f.one ∙ sym f.whole
@@ -124,6 +134,10 @@ module _ (p : Programs) (a b : List ℕ) where
   DueReady-one c s s' h (Works r e) (Breaks r' f) = ended_or_stopped true false refl refl (works_one r true false e f)
   DueReady-one c s s' h (Breaks r e) (Works r' f) = ended_or_stopped true false refl refl (let k = works_one r false true e f in (sym k.0, k.1))
   DueReady-one c s s' h (Breaks r e) (Breaks r' f) = (refl, (works_one r false false e f).1)
+  DueReady-one c s s' h (Costs seed d e) (Costs seed' d' f) = (refl, (costs_one seed d true true e f).1)
+  DueReady-one c s s' h (Costs seed d e) (CostsNone seed' d' f) = ended_or_stopped true false refl refl (costs_one seed d true false e f)
+  DueReady-one c s s' h (CostsNone seed d e) (Costs seed' d' f) = ended_or_stopped true false refl refl (let k = costs_one seed d false true e f in (sym k.0, k.1))
+  DueReady-one c s s' h (CostsNone seed d e) (CostsNone seed' d' f) = (refl, (costs_one seed d false false e f).1)
   DueReady-one c s s' h (Draws e) (Draws f) = (refl, draws_one e f)
   DueReady-one c s s' h (Draws e) (DrawsNone f) = absurd (ends_or_early p e.circuit f.left e.one f.early)
   DueReady-one c s s' h (DrawsNone e) (Draws f) = absurd (ends_or_early p f.circuit e.left f.one e.early)

@@ -1,5 +1,5 @@
 -- What an answer is due for, from the programs, the text and the source
-use Rattle.std.proofs.Common.{◌≡◌, ℕ, ◌+◌, ◌≤◌, List, [], ◌++◌, length, Option, Some, None, Result, Ok, Err, refl, sym, ap, subst, ◌∙◌, codes}
+use Rattle.std.proofs.Common.{◌≡◌, ℕ, ◌+◌, ◌≤◌, List, [], ◌++◌, length, true, false, Option, Some, None, Result, Ok, Err, refl, sym, ap, subst, ◌∙◌, codes}
 use Rattle.std.specs.Prelude.{IsErrAnd, Vec}
 use Rattle.std.specs.declared.alloc.Global.{Global}
 use Rattle.std.proofs.lemmas.Option.{none-some}
@@ -20,11 +20,13 @@ use Rattle.qm_ideal.specs.declared.MonoError.TheVariants as mono_error
 use Rattle.qm_instr.specs.Bits.{number_of_bits}
 use Rattle.qm_ideal.specs.OneCircuits.{OneView, IsOneCircuit, Explains, bits_of, slot_of}
 use Rattle.qm_eval.specs.Holding.{HoldsCircuit}
+use Rattle.qm_cost.specs.declared.Delays.{Delays}
+use Rattle.qm_machine.specs.declared.Halt.{Halt}
 use Rattle.qm_print.specs.declared.FaultLine.{FaultLine}
 use Rattle.qm_print.specs.declared.FaultLine.TheVariants as line
 use Rattle.qm_print.specs.declared.Head.{Head}
 use Rattle.qm_print.specs.declared.Live.{Live}
-use Rattle.qm_print.specs.FaultText.{fault_text}
+use Rattle.qm_print.specs.FaultText.{fault_text, stopped_line}
 use Rattle.qm_print.specs.Slots.{full_slots, slots_text}
 use Rattle.qm_print.specs.StateText.{branch_lines, head_lines, state_lines}
 use Rattle.qm_tool.specs.declared.answer.Answer.{Answer}
@@ -39,7 +41,7 @@ use Rattle.qm_tool.specs.declared.refusal.Refusal.TheVariants as refusal
 use Rattle.qm_tool.specs.declared.status.Status.{Status}
 use Rattle.qm_tool.specs.declared.status.Status.TheVariants as status
 use Rattle.qm_tool.specs.Commands.{made_of, plain}
-use Rattle.qm_tool.specs.Due.{IsOneText, WaitsWith, IsAmplitudesText, ReadsReady, IsRefusedFor, RefusedWith, DueReady, DueOf, Made, Refused, Ready}
+use Rattle.qm_tool.specs.Due.{IsOneText, WaitsWith, IsAmplitudesText, CostsTo, ReadsReady, IsRefusedFor, RefusedWith, DueReady, Costs, CostsNone, DueOf, Made, Refused, Ready}
 use Rattle.qm_tool.specs.Calls.{CameFrom, Comes, NoCommand, Failed, More, Text, Ends, Whole, Broken}
 use Rattle.qm_tool.specs.Ends.{HeadSays, text_under}
 use Rattle.qm_tool.specs.Reading.{IsUngiven, IsUnready}
@@ -144,6 +146,15 @@ module _ {A : Type 0} (store : A → Store) where
 
     pub unready-call : (x : Refusal) → IsUnready text x → AnswersCall store (Some this) from from' (Err x)
     unready-call x u = text-call text this (Some this) from from' (Err x) refl came (unready-text text this x (λ r is. absurd (none-some r is)) u)
+
+  -- ---- the cost of a run
+  module _ (p : Programs) (seed : ℕ) (d : Delays) where
+    pub cost-stops : (h : Halt) (f : FaultLine) → f ≡ line.Stopped h.rank h.turns h.cause → CostsTo false seed d p (stopped_line h.rank h.turns h.cause)
+        → Fits store (λ bytes s. DueReady p bytes (command.Cost seed d) s) (answer.Line f)
+    cost-stops h f is due = subst (λ (x : FaultLine). Fits store (λ bytes s. DueReady p bytes (command.Cost seed d) s) (answer.Line x)) (sym is) (record { may_put = tt; due = CostsNone seed d due })
+
+    pub cost-ends : (text : Vec ℕ Global) (bytes : List ℕ) → text.items ≡ bytes → CostsTo true seed d p bytes → Fits store (λ bytes s. DueReady p bytes (command.Cost seed d) s) (answer.Text status.Ok text)
+    cost-ends text bytes is due = record { may_put = tt; due = Costs seed d (subst (CostsTo true seed d p) (sym is) due) }
 
   -- ---- the one circuit
   -- ranks wait for each other

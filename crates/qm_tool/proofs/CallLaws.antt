@@ -1,10 +1,11 @@
 -- What a whole call says: the cause of its status, and the status and the bytes that were due
-use Rattle.std.proofs.Common.{◌≡◌, ◌≢◌, ℕ, ◌≤◌, ◌⊎◌, inl, inr, List, ◌++◌, length, Option, Some, None, Result, Ok, Err, refl, sym, ap, subst, ◌∙◌, arith, length-append}
+use Rattle.std.proofs.Common.{◌≡◌, ◌≢◌, ℕ, ◌≤◌, ◌⊎◌, inl, inr, Bool, true, List, ◌++◌, length, Option, Some, None, Result, Ok, Err, refl, sym, ap, subst, ◌∙◌, arith, length-append}
 use Rattle.std.proofs.lemmas.List.{append-nil}
 use Rattle.std.proofs.lemmas.Option.{none-some}
 use Rattle.qm_denot.specs.Stores.{Store}
 use Rattle.qm_instr.specs.Programs.{Programs}
 use Rattle.qm_check.specs.Checks.{IsReady}
+use Rattle.qm_cost.specs.declared.Delays.{Delays}
 use Rattle.qm_io.specs.Ends.{SinkView, SourceView, Rose, Took, IsSpent, led_by}
 use Rattle.qm_io.specs.Intake.{GaveAll, GaveMore, FailedOnce}
 use Rattle.qm_tool.specs.declared.answer.Answer.{Answer}
@@ -17,9 +18,12 @@ use Rattle.qm_tool.specs.declared.command.Command.{Command}
 use Rattle.qm_tool.specs.declared.command.Command.TheVariants as command
 use Rattle.qm_tool.specs.declared.command.Play.{Play}
 use Rattle.qm_tool.specs.declared.command.Recipe.{Recipe}
-use Rattle.qm_tool.specs.Commands.{made_of, text_or}
+use Rattle.qm_tool.specs.declared.command.Listing.TheVariants.{Nothing}
+use Rattle.qm_tool.specs.declared.command.Order.TheVariants.{Seeded}
+use Rattle.qm_tool.specs.Commands.{block_of, made_of, text_or, IsRunning}
+use Rattle.qm_tool.specs.Dues.{IsScheduleOf, IsTurnAfter, IsDue, Completes, StopsShort}
 use Rattle.qm_tool.specs.Due as row
-use Rattle.qm_tool.specs.Due.{OnReady, StatesOneCircuit, EndsWith, DueReady, DueOf, Due}
+use Rattle.qm_tool.specs.Due.{OnReady, StatesOneCircuit, EndsWith, IsCostText, CostsTo, TellsCost, DueReady, DueOf, Due}
 use Rattle.qm_tool.specs.Lines.{HasAmplitudeLine}
 use Rattle.qm_tool.specs.Calls.{Call, call, AsksSource, CameFrom, Comes, NoCommand, Failed, More, Text, Ends, Whole, Broken, Ran, Starved, Done, Answers, Breaks, IsOfText, EndsHeld, WritesDue}
 use Rattle.qm_tool.specs.Promises.{Promises}
@@ -66,6 +70,8 @@ DueReady-of_text p bytes c s (row.Ends play e) = tt
 DueReady-of_text p bytes c s (row.Stops play e) = tt
 DueReady-of_text p bytes c s (row.Works r e) = tt
 DueReady-of_text p bytes c s (row.Breaks r e) = tt
+DueReady-of_text p bytes c s (row.Costs seed d e) = tt
+DueReady-of_text p bytes c s (row.CostsNone seed d e) = tt
 DueReady-of_text p bytes c s (row.Draws e) = tt
 DueReady-of_text p bytes c s (row.DrawsNone e) = tt
 DueReady-of_text p bytes c s (row.Values e) = tt
@@ -79,9 +85,24 @@ DueOf-of_text text bytes c s (row.Made r e) = tt
 DueOf-of_text text bytes c s (row.Refused c' none e) = tt
 DueOf-of_text text bytes c s (row.Ready c' q p reads d) = DueReady-of_text p bytes c' q d
 
--- a run that ended well
-DueOf-ended : (text bytes : List ℕ) (play : Play) → DueOf text bytes (command.Run play) status.Ok → OnReady (λ p b. IsReady p × EndsWith play p b) text bytes
-DueOf-ended text bytes play (row.Ready c q p reads (row.Ends how e)) = record { programs = p; reads = reads; so = (reads.ready, e) }
+-- a run that ended well, by what follows from its bytes
+DueOf-ended : (play : Play) (says : Programs → List ℕ → Type 0) → ((p : Programs) (bytes : List ℕ) → IsReady p → EndsWith play p bytes → says p bytes) → (text bytes : List ℕ)
+    → DueOf text bytes (command.Run play) status.Ok → OnReady says text bytes
+DueOf-ended play says so text bytes (row.Ready c q p reads (row.Ends how e)) = record { programs = p; reads = reads; so = so p bytes reads.ready e }
+
+-- a run whose cost is told
+tells_cost : (seed : ℕ) (d : Delays) (p : Programs) (bytes : List ℕ) → CostsTo true seed d p bytes → TellsCost seed d p bytes
+tells_cost seed d p bytes e = by_due true e.due refl
+  where
+    by_due : (complete : Bool)
+        → IsDue p (IsScheduleOf p (Seeded seed)) (IsTurnAfter p (Seeded seed)) (IsCostText d p) (λ c schedule. block_of Nothing c p schedule) bytes complete
+        → complete ≡ true → TellsCost seed d p bytes
+    by_due _ (StopsShort schedule order due) is = cc
+    by_due _ (Completes schedule order due) is =
+        record { schedule = schedule; order = order; complete = due.complete; text = subst (IsCostText d p schedule) (sym (due.whole ∙ append-nil due.end)) due.so }
+
+DueOf-costed : (text bytes : List ℕ) (seed : ℕ) (d : Delays) → DueOf text bytes (command.Cost seed d) status.Ok → OnReady (TellsCost seed d) text bytes
+DueOf-costed text bytes seed d (row.Ready c q p reads (row.Costs seed' d' e)) = record { programs = p; reads = reads; so = tells_cost seed d p bytes e }
 
 -- ---- what each status says
 module _ (k : Call) where
@@ -112,19 +133,18 @@ module _ (k : Call) where
   text_of_cause status.OutOfMemory q a = absurd q
   text_of_cause s q a = a
 
-  -- of a run that ended well, by what follows from its bytes
-  ended : (play : Play) (says : Programs → List ℕ → Type 0) → ((p : Programs) (bytes : List ℕ) → IsReady p → EndsWith play p bytes → says p bytes)
-      → k.command ≡ Some (command.Run play) → AnswersAs status.Ok → Answers k (λ c. OnReady says)
-  ended play says so is a =
-      let same : a.command ≡ command.Run play = let own = a.is in cc in
-      let e = DueOf-ended a.text a.bytes play (subst (λ c. DueOf a.text a.bytes c status.Ok) same a.so) in
+  -- of a command that ended well, by what follows from its bytes
+  ended : (this : Command) (says : Programs → List ℕ → Type 0) → ((text bytes : List ℕ) → DueOf text bytes this status.Ok → OnReady says text bytes)
+      → k.command ≡ Some this → AnswersAs status.Ok → Answers k (λ c. OnReady says)
+  ended this says so is a =
+      let same : a.command ≡ this = let own = a.is in cc in
       record {
         command = a.command;
         is = a.is;
         text = a.text;
         came = a.came;
         bytes = a.bytes;
-        so = record { programs = e.programs; reads = e.reads; so = so e.programs a.bytes e.so.0 e.so.1 };
+        so = so a.text a.bytes (subst (λ c. DueOf a.text a.bytes c status.Ok) same a.so);
         took = a.took;
       }
 
@@ -191,11 +211,11 @@ module _ (from from' : SourceView) (to to' : SinkView) where
         let one = Due-one o given q s bytes came.bytes settled d came.due in
         (sym one.0, subst (Took to to') (sym one.1) came.took)
 
-    Ran-complete : Ran k → (play : Play) (text : List ℕ) → EndsHeld k text → o ≡ Some (command.Run play) → length text ≤ 1048576 → row.IsSure text → (s ≡ status.Ok) ⊎ (s ≡ status.OutOfMemory)
-    Ran-complete (Starved c is e same) play text held run short sure = inr e
-    Ran-complete (Done due b comes ends) play text held run short sure =
+    Ran-complete : Ran k → (c : Command) (text : List ℕ) → EndsHeld k text → o ≡ Some c → IsRunning c → length text ≤ 1048576 → row.IsSure text → (s ≡ status.Ok) ⊎ (s ≡ status.OutOfMemory)
+    Ran-complete (Starved c' is e same) c text held run on short sure = inr e
+    Ran-complete (Done due b comes ends) c text held run on short sure =
         let d = Comes-due from from' text o due b held.told held.read comes in
-        inl ((Ends-took due s b held.wrote ends).0 ∙ Due-ok play text b sure due short (subst (λ x. Due text b x due) run d))
+        inl ((Ends-took due s b held.wrote ends).0 ∙ Due-ok text b sure c due on short (subst (λ x. Due text b x due) run d))
 
     pub Ran-promises : Ran k → Promises k
     Ran-promises r = record {
@@ -206,8 +226,9 @@ module _ (from from' : SourceView) (to to' : SinkView) where
       too_long = cause status.TooLong r;
       write_fault = cause status.WriteFault r;
       nothing = cause status.OutOfMemory r;
-      headline = λ play is e. ended k play (StatesOneCircuit play) (EndsWith-one_circuit play) is (cause status.Ok r e);
-      some_line = λ play is e. ended k play (HasAmplitudeLine play) (some_line_due play) is (cause status.Ok r e);
+      headline = λ play is e. ended k (command.Run play) (StatesOneCircuit play) (DueOf-ended play (StatesOneCircuit play) (EndsWith-one_circuit play)) is (cause status.Ok r e);
+      some_line = λ play is e. ended k (command.Run play) (HasAmplitudeLine play) (DueOf-ended play (HasAmplitudeLine play) (some_line_due play)) is (cause status.Ok r e);
+      cost = λ seed d is e. ended k (command.Cost seed d) (TellsCost seed d) (λ text bytes. DueOf-costed text bytes seed d) is (cause status.Ok r e);
       whole = λ asks q. whole_text k s asks (text_of_cause k s q (Ran-cause r));
       flushed = Ran-flushed r;
       no_command = Ran-usage r;

@@ -12,7 +12,7 @@ use Rattle.qm_tool.specs.declared.command.Recipe.{Recipe}
 use Rattle.qm_gen.specs.declared.GenKind.{GenKind}
 use Rattle.qm_gen.specs.declared.GenKind.TheVariants.{Ring, Ghz, Parity}
 use Rattle.qm_gen.specs.Sizes.{IsSize}
-use Rattle.qm_tool.specs.Commands.{command_of, digits_after, has_size, if_at_most, order_words, plain_of, threaded, threads_of, IsOnPrograms}
+use Rattle.qm_tool.specs.Commands.{command_of, digits_after, has_size, if_at_most, made_of, order_words, plain_of, threaded, threads_of, IsBounded, IsOnPrograms, IsSized}
 
 abbrev pub is_digit : ℕ → Bool
 is_digit b = nat_le 48 b && nat_le b 57
@@ -34,6 +34,12 @@ pub sized-has_size : (kind : GenKind) (n : ℕ) → has_size kind n ≡ true →
 sized-has_size Ring n e = record { enough = grind (arith, nat_tests); few = grind (arith, nat_tests) }
 sized-has_size Ghz n e = record { enough = grind (arith, nat_tests); few = grind (arith, nat_tests) }
 sized-has_size Parity n e = record { enough = grind (arith, nat_tests); few = grind (arith, nat_tests) }
+
+-- the made program that a command is on has a size of its kind
+pub bounded_size : (c : Command) (r : Recipe) → IsBounded c → made_of c ≡ Some r → IsSized r
+bounded_size (command.Gen q) r bounded is = let same : q ≡ r = cc in subst IsSized same bounded
+bounded_size (command.Job q) r bounded is = let same : q ≡ r = cc in subst IsSized same bounded
+bounded_size c r bounded is = absurd (none-some r is)
 
 -- a command that doesn't only write its program
 pub on_programs : (c : Command) → ((r : Recipe) → c ≢ command.Gen r) → IsOnPrograms c
@@ -72,3 +78,13 @@ three_words f (w ∷ []) least few = absurd (omega (arith, least))
 three_words f (w ∷ k ∷ []) least few = absurd (omega (arith, least))
 three_words f (w ∷ k ∷ s ∷ []) least few = refl
 three_words f (w ∷ k ∷ s ∷ n ∷ ws) least few = absurd (omega (arith, few))
+
+-- nor of more than five
+pub many_words : {A : Type 0} (f : A → List ℕ) (words : List A) → 6 ≤ length words → command_of (map f words) ≡ None
+many_words f [] least = absurd (omega (arith, least))
+many_words f (w ∷ []) least = absurd (omega (arith, least))
+many_words f (w ∷ k ∷ []) least = absurd (omega (arith, least))
+many_words f (w ∷ k ∷ s ∷ []) least = absurd (omega (arith, least))
+many_words f (w ∷ k ∷ s ∷ n ∷ []) least = absurd (omega (arith, least))
+many_words f (w ∷ k ∷ l ∷ p ∷ b ∷ []) least = absurd (omega (arith, least))
+many_words f (w ∷ k ∷ l ∷ p ∷ b ∷ v ∷ ws) least = refl

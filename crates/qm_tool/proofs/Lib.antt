@@ -15,7 +15,7 @@ pub mod Completing
 pub mod CallLaws
 pub mod RunLemmas
 pub mod AnswerLemmas
-pub mod MakingSizes
+pub mod Bounds
 pub mod SomeReading
 pub mod SomeFaults
 pub mod SomeCircuits

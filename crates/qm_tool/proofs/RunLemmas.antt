@@ -1,13 +1,16 @@
 -- What is due where a machine was played: the text of its end, or the line of where and why it stopped, and the block
-use Rattle.std.proofs.Common.{◌≡◌, ◌∙◌, ℕ, List, ◌++◌, Option, Some, None, false, length, refl, sym, ap, subst, ⊎_elim}
+use Rattle.std.proofs.Common.{◌≡◌, ◌∙◌, ℕ, List, [], ◌++◌, Bool, Option, Some, None, true, false, length, refl, sym, ap, subst, ⊎_elim}
 use Rattle.std.specs.Prelude.{is_none}
 use Rattle.std.proofs.Math.Nat.{add-zero}
 use Rattle.std.proofs.lemmas.List.{append-nil}
+use Rattle.std.proofs.lemmas.Option.{none-some, same_Some}
+use Rattle.qm_cost.specs.declared.Delays.{Delays}
+use Rattle.qm_cost.specs.Reports.{ReportView, IsCost}
 use Rattle.qm_denot.specs.Stores.{Store}
-use Rattle.qm_instr.specs.Programs.{Programs}
+use Rattle.qm_instr.specs.Programs.{Programs, IsInRange}
 use Rattle.qm_instr.specs.Bits.{number_of_bits}
 use Rattle.qm_machine.specs.declared.Halt.{Halt}
-use Rattle.qm_machine.specs.Keeps.{HasEnded, state_of}
+use Rattle.qm_machine.specs.Keeps.{MachineView, HasEnded, state_of}
 use Rattle.qm_proto.specs.Model.Schedules.{protocol_total}
 use Rattle.qm_print.specs.declared.Live.{Live}
 use Rattle.qm_print.specs.FaultText.{stopped_line}
@@ -15,15 +18,40 @@ use Rattle.qm_print.specs.JobText.{job_text}
 use Rattle.qm_print.specs.Slots.{full_slots}
 use Rattle.qm_print.specs.StateText.{line_count, state_lines}
 use Rattle.qm_tool.specs.declared.command.Command.TheVariants as command
+use Rattle.qm_tool.specs.declared.command.Order.TheVariants.{Seeded}
 use Rattle.qm_tool.specs.declared.command.Play.{Play}
 use Rattle.qm_tool.specs.declared.command.Recipe.{Recipe}
 use Rattle.qm_tool.specs.declared.running.Run.{Run}
-use Rattle.qm_tool.specs.Commands.{block_of, kind_word, plain}
-use Rattle.qm_tool.specs.Dues.{Completes, StopsShort, HaltStops}
-use Rattle.qm_tool.specs.Due.{IsJobText, IsTextAfter, RunsTo, WorksTo, DueReady, Ends, Stops, Works, Breaks}
+use Rattle.qm_tool.specs.Commands.{block_of, kind_word, plain, seeded}
+use Rattle.qm_tool.specs.CostText.{cost_text}
+use Rattle.qm_tool.specs.Dues.{Completes, StopsShort, HaltStops, HasPlayed}
+use Rattle.qm_tool.specs.Due.{IsCostText, IsJobText, IsTextAfter, RunsTo, CostsTo, WorksTo, DueReady, Ends, Stops, Works, Breaks}
 use Rattle.qm_tool.specs.Ends.{bits_in, text_under}
 use Rattle.qm_tool.specs.Running.{IsRun, job_numbers, run_status, run_text, status_where, text_where, work_text}
 use Rattle.qm_tool.proofs.EndLemmas.{HeadSays-text}
+
+-- a machine that was played in this way, with any text of what its schedule leaves
+module _ {A : Type 0} (play : Play) (m : MachineView A) (in_range : IsInRange m.programs) (played : HasPlayed play.order m) (IsEnd : Programs → List ℕ → List ℕ → Type 0) where
+  abbrev PlaysTo : Bool → List ℕ → Type 0
+  PlaysTo complete text = RunsTo complete play IsEnd m.programs (text ++ block_of play.listing complete m.programs m.schedule)
+
+  ended_due : (end : List ℕ) → IsEnd m.programs m.schedule end → HasEnded m → PlaysTo true end
+  ended_due end so ended = record {
+    in_range = in_range;
+    due = Completes m.schedule played.schedule (record { complete = record { legal = played.legal; ended = ended.ended }; end = end; so = so; whole = refl });
+  }
+
+  stopped_due : (h : Halt) → HaltStops play.order m h → PlaysTo false (stopped_line h.rank h.turns h.cause)
+  stopped_due h stops = record {
+    in_range = in_range;
+    due = StopsShort m.schedule played.schedule (record {
+      legal = played.legal;
+      rank = h.rank;
+      cause = h.cause;
+      stops = stops.stops;
+      whole = ap (λ n. stopped_line h.rank n h.cause ++ block_of play.listing false m.programs m.schedule) stops.turns;
+    });
+  }
 
 module _ {A : Type 0} (store : A → Store) (play : Play) (p : Programs) (run : Run A) (on : IsRun store play p run) where
   -- with any text of its end
@@ -35,23 +63,10 @@ module _ {A : Type 0} (store : A → Store) (play : Play) (p : Programs) (run : 
     RunDue h = RunsTo (is_none h) play IsEnd run.machine.programs (bytes_where h play)
 
     ended_to : HasEnded run.machine → RunDue None
-    ended_to ended = record {
-      in_range = on.in_range;
-      due = Completes run.machine.schedule on.played.schedule
-          (record { complete = record { legal = on.played.legal; ended = ended.ended }; end = end; so = so; whole = refl });
-    }
+    ended_to ended = ended_due play run.machine on.in_range on.played IsEnd end so ended
 
     stopped_to : (h : Halt) → HaltStops play.order run.machine h → RunDue (Some h)
-    stopped_to h stops = record {
-      in_range = on.in_range;
-      due = StopsShort run.machine.schedule on.played.schedule (record {
-        legal = on.played.legal;
-        rank = h.rank;
-        cause = h.cause;
-        stops = stops.stops;
-        whole = ap (λ n. stopped_line h.rank n h.cause ++ block_of play.listing false run.machine.programs run.machine.schedule) stops.turns;
-      });
-    }
+    stopped_to h stops = stopped_due play run.machine on.in_range on.played IsEnd h stops
 
     over_to : RunDue run.halt
     over_to =
@@ -118,3 +133,22 @@ module _ {A : Type 0} (store : A → Store) (r : Recipe) (p : Programs) (run : R
   work-ready =
       work_row run.halt (work_text store r run)
       (subst (WorksTo (is_none run.halt) r p) nothing_listed (run_due store plain p run on (IsJobText r) summary summary_at_end))
+
+-- and what is written of the cost of a run
+module _ {A : Type 0} (seed : ℕ) (d : Delays) (p : Programs) (m : MachineView A) (programs : m.programs ≡ p) (in_range : IsInRange m.programs) (played : HasPlayed (Seeded seed) m) where
+  -- nothing is listed
+  alone : (complete : Bool) (text : List ℕ) → CostsTo complete seed d m.programs (text ++ []) → CostsTo complete seed d p text
+  alone complete text due =
+      subst (λ (q : Programs). CostsTo complete seed d q text) programs (subst (CostsTo complete seed d m.programs) (append-nil text) due)
+
+  pub cost-ended : m.halted ≡ None → (r : ReportView) → IsCost m.programs m.schedule d r → CostsTo true seed d p (cost_text (length m.schedule) r)
+  cost-ended none r so =
+      let text = cost_text (length m.schedule) r in
+      let report : IsCostText d m.programs m.schedule text = record { report = r; so = so; whole = refl } in
+      ⊎_elim (λ ended. alone true text (ended_due (seeded seed) m in_range played (IsCostText d) text report ended))
+      (λ h. absurd (none-some h.0 (sym none ∙ h.1.0))) played.over
+
+  pub cost-stopped : (h : Halt) → m.halted ≡ Some h → CostsTo false seed d p (stopped_line h.rank h.turns h.cause)
+  cost-stopped h some =
+      ⊎_elim (λ ended. absurd (none-some h (sym ended.running ∙ some)))
+      (λ k. alone false (stopped_line h.rank h.turns h.cause) (stopped_due (seeded seed) m in_range played (IsCostText d) h (subst (HaltStops (Seeded seed) m) (same_Some k.0 h (sym k.1.0 ∙ some)) k.1.1))) played.over

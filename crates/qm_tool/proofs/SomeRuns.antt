@@ -10,6 +10,9 @@ use Rattle.qm_proto.specs.Model.Orders.{Words, IsEndAround, IsFirstAround, IsOrd
 use Rattle.qm_seed.specs.Seeds.{seed_words}
 use Rattle.qm_confluence.proofs.Confluence.Confluent.{IsLeast, least}
 use Rattle.qm_instr.specs.Bits.{number_of_bits}
+use Rattle.qm_cost.specs.declared.Delays.{Delays}
+use Rattle.qm_cost.specs.Reports.{AreFew}
+use Rattle.qm_cost.proofs.Existing.{some_report}
 use Rattle.qm_print.specs.FaultText.{stopped_line}
 use Rattle.qm_print.specs.Slots.{full_slots}
 use Rattle.qm_print.specs.JobText.{job_text}
@@ -20,11 +23,12 @@ use Rattle.qm_tool.specs.declared.command.Command.TheVariants as command
 use Rattle.qm_tool.specs.declared.command.Play.{Play}
 use Rattle.qm_tool.specs.declared.status.Status.TheVariants as status
 use Rattle.qm_tool.specs.declared.command.Recipe.{Recipe}
-use Rattle.qm_tool.specs.Commands.{block_of, kind_word, plain}
+use Rattle.qm_tool.specs.Commands.{block_of, kind_word, plain, seeded}
+use Rattle.qm_tool.specs.CostText.{cost_text}
 use Rattle.qm_tool.specs.declared.command.Order.{Order}
 use Rattle.qm_tool.specs.declared.command.Order.TheVariants.{Lowest, Seeded, Any}
 use Rattle.qm_tool.specs.Dues.{Refused, Stuck, IsScheduleOf, IsTurnAfter, IsDue, Completes, StopsShort}
-use Rattle.qm_tool.specs.Due.{IsTextAfter, IsJobText, RunsTo, WorksTo, Ends, Stops, Works, Breaks}
+use Rattle.qm_tool.specs.Due.{IsTextAfter, IsCostText, IsJobText, RunsTo, CostsTo, WorksTo, Ends, Stops, Works, Breaks, Costs, CostsNone}
 use Rattle.qm_tool.proofs.SomeCircuits.{HasAnswer}
 
 -- words whose run is one of the order
@@ -146,3 +150,14 @@ module _ (p : Programs) (in_range : IsInRange p) where
 
   pub some_job_answer : (r : Recipe) → HasAnswer p (command.Job r)
   some_job_answer r = job_by_end r (some_end plain (IsJobText r) (summary_after r))
+
+  -- its cost text
+  cost_after : (d : Delays) → AreFew d → (schedule : List ℕ) → (text : List ℕ) × IsCostText d p schedule text
+  cost_after d few schedule = let r = some_report p schedule d few in (cost_text (length schedule) r.0, record { report = r.0; so = r.1; whole = refl })
+
+  cost_by_end : (seed : ℕ) (d : Delays) → (complete : Bool) × (bytes : List ℕ) × CostsTo complete seed d p bytes → HasAnswer p (command.Cost seed d)
+  cost_by_end seed d (true, bytes, due) = (status.Ok, bytes, Costs seed d due)
+  cost_by_end seed d (false, bytes, due) = (status.Stopped, bytes, CostsNone seed d due)
+
+  pub some_cost_answer : (seed : ℕ) (d : Delays) → AreFew d → HasAnswer p (command.Cost seed d)
+  some_cost_answer seed d few = cost_by_end seed d (some_end (seeded seed) (IsCostText d) (cost_after d few))

@@ -1,6 +1,7 @@
 -- Blocks and settled answers, worked out by hand
 use Rattle.std.proofs.Common.{◌≡◌, ℕ, List, [], ◌∷◌, map, Bool, true, false, Some, None, refl, sym}
 use Rattle.std.proofs.lemmas.Option.{none-some}
+use Rattle.qm_cost.specs.declared.Delays.{Delays}
 use Rattle.qm_instr.specs.Programs.{Programs}
 use Rattle.qm_print.specs.Blocks.{turns_block}
 use Rattle.qm_tool.specs.declared.command.Command.TheVariants as command
@@ -36,3 +37,7 @@ ends_settled = ((λ none. absurd (none-some _ (sym none))), (λ none. absurd (no
 
 others_settled : IsSettled (Some command.Mono) status.Ok × (IsSettled (Some command.Check) status.Ok × IsSettled None status.Usage)
 others_settled = (tt, (tt, tt))
+
+-- the cost of a run among them, whether it ends or stops
+costs_settled : (seed : ℕ) (d : Delays) → IsSettled (Some (command.Cost seed d)) status.Ok × IsSettled (Some (command.Cost seed d)) status.Stopped
+costs_settled seed d = (tt, tt)

@@ -5,7 +5,7 @@ use Rattle.qm_tool.specs.declared.command.Command.{Command}
 use Rattle.qm_tool.specs.declared.command.Command.TheVariants as command
 use Rattle.qm_tool.specs.declared.command.Order.TheVariants.{Lowest, Seeded, Any}
 use Rattle.qm_tool.specs.declared.command.Listing.TheVariants.{Nothing, Trace, Turns, TurnsOfStop}
-use Rattle.qm_tool.specs.Commands.{command_of, kind_of, plain_of, recipe, run, seed_of, size_of, threaded}
+use Rattle.qm_tool.specs.Commands.{command_of, delay_of, delays, kind_of, plain_of, recipe, run, seed_of, size_of, threaded}
 
 -- ---- numbers
 some_numbers : map seed_of (codes "0" ∷ codes "007" ∷ codes "18446744073709551615" ∷ codes "00000000000000000010" ∷ [])
@@ -93,3 +93,29 @@ no_commands : four (codes "JOB") (codes "ring") (codes "3") (codes "1") ∷ four
     ∷ command_of (codes "gen" ∷ codes "ghz" ∷ codes "3" ∷ codes "1" ∷ codes "1" ∷ []) ∷ []
     ≡ None ∷ None ∷ None ∷ None ∷ None ∷ None ∷ None ∷ None ∷ None ∷ []
 no_commands = refl
+
+-- ---- delays: both ends of their range, and one beyond
+some_delays : map delay_of (codes "0" ∷ codes "7" ∷ codes "1000000" ∷ codes "0000010" ∷ []) ≡ Some 0 ∷ Some 7 ∷ Some 1000000 ∷ Some 10 ∷ []
+some_delays = refl
+
+-- too large, 8 digits, or none
+no_delays : map delay_of (codes "1000001" ∷ codes "9999999" ∷ codes "00000001" ∷ codes "10000000" ∷ codes "+1" ∷ codes "1x" ∷ [] ∷ [])
+    ≡ None ∷ None ∷ None ∷ None ∷ None ∷ None ∷ None ∷ []
+no_delays = refl
+
+abbrev five : List ℕ → List ℕ → List ℕ → List ℕ → List ℕ → Option Command
+five name seed l p b = command_of (name ∷ seed ∷ l ∷ p ∷ b ∷ [])
+
+five_words : five (codes "cost") (codes "1") (codes "2") (codes "10") (codes "5")
+    ∷ five (codes "cost") (codes "18446744073709551615") (codes "0") (codes "1000000") (codes "0000003") ∷ []
+    ≡ Some (command.Cost 1 (delays 2 10 5)) ∷ Some (command.Cost 18446744073709551615 (delays 0 1000000 3)) ∷ []
+five_words = refl
+
+-- a seed that is none, a delay that is none at each place, another name, and too few words or too many
+no_costs : five (codes "cost") (codes "18446744073709551616") (codes "1") (codes "1") (codes "1")
+    ∷ five (codes "cost") (codes "1") (codes "1000001") (codes "1") (codes "1") ∷ five (codes "cost") (codes "1") (codes "1") (codes "00000001") (codes "1")
+    ∷ five (codes "cost") (codes "1") (codes "1") (codes "1") [] ∷ five (codes "costs") (codes "1") (codes "1") (codes "1") (codes "1")
+    ∷ command_of (codes "cost" ∷ []) ∷ command_of (codes "cost" ∷ codes "1" ∷ []) ∷ command_of (codes "cost" ∷ codes "1" ∷ codes "1" ∷ codes "1" ∷ [])
+    ∷ command_of (codes "cost" ∷ codes "1" ∷ codes "1" ∷ codes "1" ∷ codes "1" ∷ codes "1" ∷ []) ∷ []
+    ≡ None ∷ None ∷ None ∷ None ∷ None ∷ None ∷ None ∷ None ∷ None ∷ []
+no_costs = refl

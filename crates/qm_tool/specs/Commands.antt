@@ -1,5 +1,5 @@
 -- The commands: the one reading of their words; the made program of those that have one; and of a run the block that is listed after it
-use Rattle.std.specs.Prelude.{ℕ, Bool, true, false, ◌+◌, ◌*◌, ◌-◌, ◌&&◌, nat_le, List, [], ◌∷◌, length, Option, Some, None, is_none, if◌then◌else◌, option_and_then, option_map, codes, IfSome}
+use Rattle.std.specs.Prelude.{ℕ, Bool, true, false, ◌+◌, ◌*◌, ◌-◌, ◌&&◌, nat_le, List, [], ◌∷◌, length, Option, Some, None, is_none, if◌then◌else◌, option_and_then, option_map, codes}
 use Rattle.std.specs.Str.{bytes_eq}
 use Rattle.qm_instr.specs.Programs.{Programs}
 use Rattle.qm_proto.specs.Model.Orders.{Words, from_the_lowest}
@@ -9,7 +9,10 @@ use Rattle.qm_gen.specs.declared.TheConstants.{LEAST_RING, MOST_RING, LEAST_GHZ,
 use Rattle.qm_gen.specs.Made.{made_text}
 use Rattle.qm_seed.specs.Seeds.{seed_words}
 use Rattle.qm_gen.specs.Sizes.{IsSize}
-use Rattle.qm_tool.specs.declared.command.TheConstants.{MOST_DIGITS, LARGEST_NUMBER, MOST_SIZE_DIGITS, LARGEST_SIZE}
+use Rattle.qm_cost.specs.declared.TheConstants.{MOST_DELAY}
+use Rattle.qm_cost.specs.declared.Delays.{Delays}
+use Rattle.qm_cost.specs.Reports.{AreFew}
+use Rattle.qm_tool.specs.declared.command.TheConstants.{MOST_DIGITS, LARGEST_NUMBER, MOST_SIZE_DIGITS, LARGEST_SIZE, MOST_DELAY_DIGITS}
 use Rattle.qm_tool.specs.declared.command.Command.{Command}
 use Rattle.qm_tool.specs.declared.command.Command.TheVariants as command
 use Rattle.qm_tool.specs.declared.command.Order.{Order}
@@ -94,6 +97,25 @@ four_words w k s n =
     if bytes_eq w (codes "gen") then option_map (λ r. command.Gen r) (recipe_of k s n)
     else (if bytes_eq w (codes "job") then option_map (λ r. command.Job r) (recipe_of k s n) else None)
 
+-- the delay that a word is: it has some decimal digits, not many, and a value that isn't too large
+abbrev pub delay_of : List ℕ → Option ℕ
+delay_of w = number_of MOST_DELAY_DIGITS MOST_DELAY w
+
+-- how long a local event takes, how long a pair takes, and how long bits are on their way
+abbrev pub delays : ℕ → ℕ → ℕ → Delays
+delays local pair bits = record { local = local; pair = pair; bits = bits }
+
+-- the delays that three words are
+abbrev pub delays_of : List ℕ → List ℕ → List ℕ → Option Delays
+delays_of l p b =
+    option_and_then (λ local. option_and_then (λ pair. option_map (delays local pair) (delay_of b)) (delay_of p)) (delay_of l)
+
+-- the command that five words are
+abbrev pub five_words : List ℕ → List ℕ → List ℕ → List ℕ → List ℕ → Option Command
+five_words w k l p b =
+    if bytes_eq w (codes "cost") then option_and_then (λ seed. option_map (λ d. command.Cost seed d) (delays_of l p b)) (seed_of k)
+    else None
+
 -- the command that words are
 abbrev pub command_of : List (List ℕ) → Option Command
 command_of [] = None
@@ -101,7 +123,8 @@ command_of (w ∷ []) = one_word w
 command_of (w ∷ k ∷ []) = two_words w k
 command_of (w ∷ k ∷ s ∷ []) = None
 command_of (w ∷ k ∷ s ∷ n ∷ []) = four_words w k s n
-command_of (w ∷ k ∷ s ∷ n ∷ v ∷ ws) = None
+command_of (w ∷ k ∷ l ∷ p ∷ b ∷ []) = five_words w k l p b
+command_of (w ∷ k ∷ l ∷ p ∷ b ∷ v ∷ ws) = None
 
 -- ---- made programs
 -- the made program that a command is on; none where the source gives the program
@@ -114,14 +137,23 @@ made_of c = None
 abbrev pub IsSized : Recipe → Type 0
 IsSized r = IsSize r.kind r.size
 
--- so it is with the made program that a command is on
-abbrev pub IsMakeable : Command → Type 0
-IsMakeable c = IfSome (made_of c) IsSized
+-- the numbers that a command names are within their bounds: the size of a made program, and the delays
+abbrev pub IsBounded : Command → Type 0
+IsBounded (command.Gen r) = IsSized r
+IsBounded (command.Job r) = IsSized r
+IsBounded (command.Cost seed d) = AreFew d
+IsBounded c = Unit {0}
 
 -- the command does more with its program than write it
 abbrev pub IsOnPrograms : Command → Type 0
 IsOnPrograms (command.Gen r) = ⊥
 IsOnPrograms c = Unit {0}
+
+-- the command runs the program of its source
+abbrev pub IsRunning : Command → Type 0
+IsRunning (command.Run play) = Unit {0}
+IsRunning (command.Cost seed d) = Unit {0}
+IsRunning c = ⊥
 
 -- the word for a kind
 abbrev pub kind_word : GenKind → List ℕ
@@ -142,6 +174,10 @@ text_or (Some r) given = recipe_text r
 -- each turn is the lowest rank's that is neither ended nor blocked, and nothing is listed
 abbrev pub plain : Play
 plain = record { order = Lowest; listing = Nothing }
+
+-- each turn is that of the rank which the seed chooses, and nothing is listed
+abbrev pub seeded : ℕ → Play
+seeded seed = record { order = Seeded seed; listing = Nothing }
 
 -- the block that is written after a run, by whether it was complete, and its schedule
 abbrev pub block_of : Listing → Bool → Programs → List ℕ → List ℕ

@@ -6,24 +6,28 @@ use Rattle.qm_instr.specs.Programs.{Programs, IsInRange}
 use Rattle.qm_limits.specs.declared.TheConstants.{MOST_BYTES}
 use Rattle.qm_check.specs.declared.Fault.{Fault}
 use Rattle.qm_check.specs.Checks.{IsReady, IsFirstFault, most_capacity}
-use Rattle.qm_proto.specs.Model.Schedules.{replay, protocol_total, RendezvousEnds}
+use Rattle.qm_proto.specs.Model.Schedules.{replay, protocol_total, IsComplete, RendezvousEnds}
 use Rattle.qm_proto.specs.Model.Ideal.{ideal_replay, IsOneRun, AllDone}
 use Rattle.qm_confluence.specs.Endings.Completing.{NeverRefused}
 use Rattle.qm_confluence.specs.Stuck.NeverStuck.{NeverStuck}
 use Rattle.qm_ideal.specs.OneCircuits.{OneView, IsOneCircuit, EndsEarly}
 use Rattle.qm_eval.specs.Overflows.{IsFirstOverflow, NeverOverflows}
+use Rattle.qm_cost.specs.declared.Delays.{Delays}
+use Rattle.qm_cost.specs.Reports.{ReportView, IsCost}
 use Rattle.qm_expand.specs.declared.ReadError.{ReadError}
 use Rattle.qm_expand.specs.declared.ReadError.TheVariants as error
 use Rattle.qm_expand.specs.Reading.{Reads}
 use Rattle.qm_tool.specs.declared.command.Command.{Command}
 use Rattle.qm_tool.specs.declared.command.Command.TheVariants as command
+use Rattle.qm_tool.specs.declared.command.Order.TheVariants.{Seeded}
 use Rattle.qm_tool.specs.declared.command.Play.{Play}
 use Rattle.qm_tool.specs.declared.command.Recipe.{Recipe}
 use Rattle.qm_print.specs.declared.FaultLine.{FaultLine}
 use Rattle.qm_print.specs.declared.FaultLine.TheVariants as line
 use Rattle.qm_tool.specs.declared.status.Status.{Status}
 use Rattle.qm_tool.specs.declared.status.Status.TheVariants as status
-use Rattle.qm_tool.specs.Commands.{block_of, command_of, kind_word, made_of, order_words, plain, text_or}
+use Rattle.qm_tool.specs.Commands.{block_of, command_of, kind_word, made_of, order_words, plain, seeded, text_or}
+use Rattle.qm_tool.specs.CostText.{cost_text}
 use Rattle.qm_tool.specs.Dues.{IsScheduleOf, IsTurnAfter, IsDue}
 use Rattle.qm_print.specs.CheckText.{check_text}
 use Rattle.qm_print.specs.CircuitText.{circuit_text}
@@ -107,6 +111,23 @@ StopsWith play p bytes = RunsTo false play IsTextAfter p bytes
 abbrev pub WorksTo : Bool → Recipe → Programs → List ℕ → Type 0
 WorksTo complete r p bytes = RunsTo complete plain (IsJobText r) p bytes
 
+-- the text is the cost text of the schedule with these delays
+pub record IsCostText (d : Delays) (p : Programs) (schedule text : List ℕ) : Type 0 where
+  pub report : ReportView
+  pub so : IsCost p schedule d report
+  pub whole : text ≡ cost_text (length schedule) report
+
+-- the bytes are due of the run in the order of the seed: the cost text, or the line of where and why it stops
+abbrev pub CostsTo : Bool → ℕ → Delays → Programs → List ℕ → Type 0
+CostsTo complete seed d p bytes = RunsTo complete (seeded seed) (IsCostText d) p bytes
+
+-- the schedule of the seed is complete, and the bytes are its cost text
+pub record TellsCost (seed : ℕ) (d : Delays) (p : Programs) (bytes : List ℕ) : Type 0 where
+  pub schedule : List ℕ
+  pub order : IsScheduleOf p (Seeded seed) schedule
+  pub complete : IsComplete p schedule
+  pub text : IsCostText d p schedule bytes
+
 -- ---- the one circuit
 -- the text is the state text of the programs' one circuit, with one division by root2 for each protocol measurement
 pub record IsOneText (p : Programs) (text : List ℕ) : Type 0 where
@@ -176,6 +197,8 @@ pub data DueReady (p : Programs) (bytes : List ℕ) : Command → Status → Typ
   Stops : (play : Play) → StopsWith play p bytes → DueReady p bytes (command.Run play) status.Stopped
   Works : (r : Recipe) → WorksTo true r p bytes → DueReady p bytes (command.Job r) status.Ok
   Breaks : (r : Recipe) → WorksTo false r p bytes → DueReady p bytes (command.Job r) status.Stopped
+  Costs : (seed : ℕ) (d : Delays) → CostsTo true seed d p bytes → DueReady p bytes (command.Cost seed d) status.Ok
+  CostsNone : (seed : ℕ) (d : Delays) → CostsTo false seed d p bytes → DueReady p bytes (command.Cost seed d) status.Stopped
   Draws : IsCircuitText p bytes → DueReady p bytes command.Mono status.Ok
   DrawsNone : WaitsWith p bytes → DueReady p bytes command.Mono status.Waits
   Values : IsAmplitudesText p bytes → DueReady p bytes command.MonoAmps status.Ok

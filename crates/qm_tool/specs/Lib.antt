@@ -1,6 +1,7 @@
 pub mod Statuses
 pub mod Commands
 pub mod Dues
+pub mod CostText
 pub mod Due
 pub mod Lines
 pub mod Refusals

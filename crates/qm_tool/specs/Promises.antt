@@ -5,11 +5,14 @@ use Rattle.qm_io.specs.Intake.{GaveAll, GaveMore, FailedOnce}
 use Rattle.qm_limits.specs.declared.TheConstants.{MOST_BYTES}
 use Rattle.qm_print.specs.declared.FaultLine.TheVariants as line
 use Rattle.qm_print.specs.FaultText.{fault_text}
+use Rattle.qm_cost.specs.declared.Delays.{Delays}
+use Rattle.qm_tool.specs.declared.command.Command.{Command}
 use Rattle.qm_tool.specs.declared.command.Command.TheVariants as command
 use Rattle.qm_tool.specs.declared.command.Play.{Play}
 use Rattle.qm_tool.specs.declared.status.Status.{Status}
 use Rattle.qm_tool.specs.declared.status.Status.TheVariants as status
-use Rattle.qm_tool.specs.Due.{OnReady, StatesOneCircuit, DueOf, Due, IsSettled, IsSure}
+use Rattle.qm_tool.specs.Commands.{IsRunning}
+use Rattle.qm_tool.specs.Due.{OnReady, StatesOneCircuit, TellsCost, DueOf, Due, IsSettled, IsSure}
 use Rattle.qm_tool.specs.Lines.{HasAmplitudeLine}
 use Rattle.qm_tool.specs.Calls.{Call, AsksSource, Ends, Ran, Answers, Breaks, IsOfText, EndsHeld, WritesDue}
 
@@ -33,6 +36,9 @@ pub record Promises (k : Call) : Type 0 where
   -- it has an amplitude line
   pub some_line : (play : Play) → k.command ≡ Some (command.Run play) → k.status ≡ status.Ok
       → Answers k (λ c. OnReady (HasAmplitudeLine play))
+  -- the cost text is that of the schedule of the seed, which is complete
+  pub cost : (seed : ℕ) (d : Delays) → k.command ≡ Some (command.Cost seed d) → k.status ≡ status.Ok
+      → Answers k (λ c. OnReady (TellsCost seed d))
   -- ---- the ends
   -- no read failed, the end of input was seen, and the text is all that the source had
   pub whole : AsksSource k.command → IsOfText k.status → (text : List ℕ) × GaveAll k.from k.from' text
@@ -45,5 +51,5 @@ pub record Promises (k : Call) : Type 0 where
   pub exact : (given : List ℕ) (s : Status) (bytes : List ℕ) → EndsHeld k given → k.status ≢ status.OutOfMemory → IsSettled k.command s
       → Due given bytes k.command s → (k.status ≡ s) × Took k.to k.to' bytes
   -- a text whose programs can come to no refused event and to no stuck state is run to its end
-  pub complete : (play : Play) (text : List ℕ) → EndsHeld k text → k.command ≡ Some (command.Run play) → length text ≤ MOST_BYTES
+  pub complete : (c : Command) (text : List ℕ) → EndsHeld k text → k.command ≡ Some c → IsRunning c → length text ≤ MOST_BYTES
       → IsSure text → (k.status ≡ status.Ok) ⊎ (k.status ≡ status.OutOfMemory)

@@ -1,9 +1,11 @@
 //! The commands, and the one reading of their words.
 ghost use Rattle.std.specs.Prelude.{◌≡◌, ◌≤◌, map, None, Some, IfSome};
 ghost use Rattle.std.specs.String.{string_bytes};
+ghost use Rattle.qm_cost.specs.Reports.{AreFew};
 ghost use Rattle.qm_gen.specs.Sizes.{IsSize};
-ghost use Rattle.qm_tool.specs.Commands.{command_of, four_words, kind_of, number_of, one_word, plain_of, recipe_of, seed_of, size_of, threaded, threads_of, two_words, IsMakeable, IsSized, made_of};
+ghost use Rattle.qm_tool.specs.Commands.{command_of, delay_of, delays_of, five_words, four_words, kind_of, number_of, one_word, plain_of, recipe_of, seed_of, size_of, threaded, threads_of, two_words, IsBounded, IsSized, made_of};
 
+use qm_cost::{Delays, MOST_DELAY};
 use qm_gen::GenKind;
 
 /// Which rank has each turn of a run.
@@ -62,6 +64,8 @@ pub enum Command {
     MonoAmps,
     /// Writes its totals, and whether its rendezvous run ends.
     Check,
+    /// Runs the program in the order that a seed chooses, and writes how long the run takes with these delays.
+    Cost { seed: u64, delays: Delays },
     /// Writes the text of a made program.
     Gen { recipe: Recipe },
     /// Runs a made program, and writes a summary of the run.
@@ -106,6 +110,9 @@ const MOST_SIZE_DIGITS: usize = 9;
 /// The largest number of so many digits.
 const LARGEST_SIZE: u64 = 999_999_999;
 
+/// How many digits a delay may have.
+const MOST_DELAY_DIGITS: usize = 7;
+
 /// The number that a word of 1 to `most` decimal digits is, if its value is at most `largest`.
 fn number_of(word: &[u8], most: usize, largest: u64) -> Option<u64>
     ensures number { result ≡ number_of most largest word.now }
@@ -137,7 +144,7 @@ fn seed_of(word: &String) -> Option<u64>
 /// The command that one word is.
 fn one_word(word: &String) -> Option<Command>
     ensures command { result ≡ one_word (string_bytes word.now) }
-    ensures makeable { IfSome result IsMakeable }
+    ensures bounded { IfSome result IsBounded }
 {
     if word.as_str() == "plain" {
         Some(Command::Run { play: PLAIN })
@@ -159,7 +166,7 @@ fn one_word(word: &String) -> Option<Command>
 /// The command that two words are.
 fn two_words(name: &String, word: &String) -> Option<Command>
     ensures command { result ≡ two_words (string_bytes name.now) (string_bytes word.now) }
-    ensures makeable { IfSome result IsMakeable }
+    ensures bounded { IfSome result IsBounded }
 {
     if name.as_str() == "sched" {
         let seed = seed_of(word)?;
@@ -233,7 +240,7 @@ fn recipe_of(kind: &String, size: &String, number: &String) -> Option<Recipe>
 fn four_words(name: &String, kind: &String, size: &String, number: &String) -> Option<Command>
     ensures command { result ≡ four_words (string_bytes name.now) (string_bytes kind.now)
         (string_bytes size.now) (string_bytes number.now) }
-    ensures makeable { IfSome result IsMakeable }
+    ensures bounded { IfSome result IsBounded }
 {
     if name.as_str() == "gen" {
         let recipe = recipe_of(kind, size, number)?;
@@ -246,16 +253,60 @@ fn four_words(name: &String, kind: &String, size: &String, number: &String) -> O
     }
 }
 
+/// The delay that a word of 1 to [`MOST_DELAY_DIGITS`] decimal digits is, if its value is at most [`MOST_DELAY`].
+fn delay_of(word: &String) -> Option<u32>
+    ensures delay { result ≡ delay_of (string_bytes word.now) }
+    ensures small { IfSome result (λ n. n ≤ MOST_DELAY) }
+{
+    let digits = word.as_str().as_bytes();
+    let delay = number_of(digits, MOST_DELAY_DIGITS, u64::from(MOST_DELAY))? as u32;
+    Some(delay)
+}
+
+/// The delays that three words are.
+fn delays_of(local: &String, pair: &String, bits: &String) -> Option<Delays>
+    ensures delays { result ≡ delays_of (string_bytes local.now) (string_bytes pair.now)
+        (string_bytes bits.now) }
+    ensures few { IfSome result AreFew }
+{
+    let local = delay_of(local)?;
+    let pair = delay_of(pair)?;
+    let bits = delay_of(bits)?;
+    Some(Delays { local, pair, bits })
+}
+
+/// The command that five words are.
+fn five_words(
+    name: &String,
+    seed: &String,
+    local: &String,
+    pair: &String,
+    bits: &String,
+) -> Option<Command>
+    ensures command { result ≡ five_words (string_bytes name.now) (string_bytes seed.now)
+        (string_bytes local.now) (string_bytes pair.now) (string_bytes bits.now) }
+    ensures bounded { IfSome result IsBounded }
+{
+    if name.as_str() == "cost" {
+        let seed = seed_of(seed)?;
+        let delays = delays_of(local, pair, bits)?;
+        Some(Command::Cost { seed, delays })
+    } else {
+        None
+    }
+}
+
 /// The command that words are, matched exactly. `None` where they are none of the forms `plain`, `sched K`, `trace K`, `run`, `run turns`,
-/// `mono`, `mono amps`, `check`, `gen KIND SIZE NUMBER` and `job KIND SIZE NUMBER`.
+/// `mono`, `mono amps`, `check`, `cost K LOCAL PAIR BITS`, `gen KIND SIZE NUMBER` and `job KIND SIZE NUMBER`.
 pub fn command_of(words: &[String]) -> Option<Command>
     ensures command { result ≡ command_of (map string_bytes words.now) }
-    ensures makeable { IfSome result IsMakeable }
+    ensures bounded { IfSome result IsBounded }
 {
     match words {
         [word] => one_word(word),
         [name, word] => two_words(name, word),
         [name, kind, size, number] => four_words(name, kind, size, number),
+        [name, seed, local, pair, bits] => five_words(name, seed, local, pair, bits),
         _ => None,
     }
 }
@@ -270,7 +321,7 @@ pub(crate) fn threads_of(words: &[String]) -> Option<Play>
 /// The command that words are to a call that starts no threads. `None` also where they ask for threads.
 pub(crate) fn plain_of(words: &[String]) -> Option<Command>
     ensures command { result ≡ plain_of (command_of (map string_bytes words.now)) }
-    ensures makeable { IfSome result IsMakeable }
+    ensures bounded { IfSome result IsBounded }
     ensures plain { IfSome result (λ c. threads_of c ≡ None) }
 {
     let command = command_of(words)?;

@@ -4,6 +4,7 @@
 mod answer;
 mod circuits;
 mod command;
+mod costs;
 mod ends;
 pub mod laws;
 mod made;

@@ -2,7 +2,7 @@
 ghost use Rattle.std.specs.Prelude.{◌≤◌, length, IfErr, IfOk, IfSome};
 ghost use Rattle.qm_gen.specs.Laws.{IsReadyText};
 ghost use Rattle.qm_tool.specs.Calls.{CameFrom};
-ghost use Rattle.qm_tool.specs.Commands.{made_of, IsMakeable};
+ghost use Rattle.qm_tool.specs.Commands.{made_of, IsBounded};
 ghost use Rattle.qm_tool.specs.Due.{ReadsReady};
 ghost use Rattle.qm_tool.specs.Reading.{IsUngiven, IsUnready};
 
@@ -21,7 +21,7 @@ pub(crate) fn text_for<I: Source>(
     command: Command,
     source: &mut I,
 ) -> Result<Vec<u8>, Refusal>
-    requires { IsMakeable command }
+    requires { IsBounded command }
     ensures came { IfOk result (λ text. CameFrom (made_of command) (I.seen source.old)
         (I.seen source.new) text.items) }
     ensures short { IfOk result (λ text. length text.items ≤ MOST_BYTES) }

@@ -118,7 +118,7 @@ pub(crate) fn run_alone(
 }
 
 /// Plays a machine from its start, until no rank has an event left or the machine is halted.
-fn play_as<A: Amps>(machine: &mut Machine<A>, order: Order)
+pub(crate) fn play_as<A: Amps>(machine: &mut Machine<A>, order: Order)
     requires able { A.able }
     requires named { order_words order ≢ None }
     requires start { machine.old.schedule ≡ [] }
@@ -134,7 +134,7 @@ fn play_as<A: Amps>(machine: &mut Machine<A>, order: Order)
 }
 
 /// Where and why a machine was halted, if it was.
-fn halt_of<A: Amps>(machine: &Machine<A>) -> Option<Halt>
+pub(crate) fn halt_of<A: Amps>(machine: &Machine<A>) -> Option<Halt>
     ensures halt { result ≡ machine.now.halted }
     ensures kept { Keeps A.store machine.now }
 {
@@ -144,13 +144,20 @@ fn halt_of<A: Amps>(machine: &Machine<A>) -> Option<Halt>
     }
 }
 
+/// The line of where and why a run stopped.
+pub(crate) fn stop_line(halt: Halt) -> FaultLine
+    ensures { result ≡ FaultLine.Stopped halt.rank halt.turns halt.cause }
+{
+    let Halt { rank, turns, cause } = halt;
+    FaultLine::Stopped { rank, turns, cause }
+}
+
 /// Writes the line of where and why a run stopped.
 pub(crate) fn put_halt<O: Sink>(sink: &mut O, halt: Halt) -> Result<(), Failed>
     ensures { Puts (O.seen sink.old) (O.seen sink.new)
         (stopped_line halt.rank halt.turns halt.cause) result }
 {
-    let Halt { rank, turns, cause } = halt;
-    put_fault(sink, &FaultLine::Stopped { rank, turns, cause })
+    put_fault(sink, &stop_line(halt))
 }
 
 /// Writes the state text of a run that ended, or the line of where and why it stopped.

@@ -5,13 +5,14 @@ ghost use Rattle.std.specs.String.{string_bytes};
 ghost use Rattle.qm_gen.specs.Laws.{IsReadyText};
 ghost use Rattle.qm_tool.specs.Answers.{AnswersCall, AnswersReady, AnswersText, Concludes, MayPut, answer_in};
 ghost use Rattle.qm_tool.specs.Calls.{call};
-ghost use Rattle.qm_tool.specs.Commands.{command_of, made_of, plain_of, threads_of, IsOnPrograms};
+ghost use Rattle.qm_tool.specs.Commands.{command_of, made_of, plain_of, threads_of, IsBounded, IsOnPrograms};
 ghost use Rattle.qm_tool.specs.Due.{ReadsReady};
 ghost use Rattle.qm_tool.specs.Promises.{Promises};
 
 use crate::answer::{Answer, put_answer};
 use crate::circuits::{amplitudes_of, check_of, circuit_of};
 use crate::command::{Command, PLAIN, plain_of};
+use crate::costs::cost_of;
 use crate::reading::{read_ready, text_for};
 use crate::refusal::Refusal;
 use crate::running::run_alone;
@@ -33,6 +34,7 @@ fn answer_ready(
 ) -> Result<Answer<ScaledAmps>, Refusal>
     requires ready { ReadsReady text.items ready }
     requires on_programs { IsOnPrograms command }
+    requires bounded { IsBounded command }
     requires plain { threads_of command ≡ None }
     ensures { AnswersReady (⟦<ScaledAmps as Amps>⟧.store) ready command result }
 {
@@ -48,6 +50,7 @@ fn answer_ready(
         Command::Mono => circuit_of(alloc, ready),
         Command::MonoAmps => amplitudes_of(alloc, &ready),
         Command::Check => check_of(alloc, ready),
+        Command::Cost { seed, delays } => cost_of(alloc, seed, delays, text, ready),
         Command::Gen { .. } => unreachable!(),
     }
 }
@@ -60,6 +63,7 @@ fn answer_text(
 ) -> Result<Answer<ScaledAmps>, Refusal>
     requires short { length text.items ≤ MOST_BYTES }
     requires made { ForSome (made_of command) (λ r. IsReadyText text.items) }
+    requires bounded { IsBounded command }
     requires plain { threads_of command ≡ None }
     ensures { AnswersText (⟦<ScaledAmps as Amps>⟧.store) text.items command result }
 {
@@ -123,15 +127,17 @@ pub(crate) fn conclude<A: Amps, O: Sink>(sink: &mut O, answer: Result<Answer<A>,
 /// Does a command that needs no threads: takes its words and a source, writes what is due to the sink and flushes it, and tells how the
 /// command ended.
 ///
-/// The commands are `plain`, `sched K`, `trace K`, `mono`, `mono amps`, `check`, `gen KIND SIZE NUMBER` and `job KIND SIZE NUMBER`, where K
-/// and NUMBER have 1 to 20 decimal digits and are at most 2^64 - 1, KIND is `ring`, `ghz` or `parity`, and SIZE has 1 to 9 decimal digits
-/// and is 1 to 10,000 for a ring, 2 to 10 for a GHZ state and 1 to 9,000 for a parity; all other words, `run` and `run turns` among them,
-/// are answered by `Usage`. All but
-/// `gen` and `job` read programs. The first three give the ranks their turns until all have ended, and write the state text: under
+/// The commands are `plain`, `sched K`, `trace K`, `mono`, `mono amps`, `check`, `cost K LOCAL PAIR BITS`, `gen KIND SIZE NUMBER` and
+/// `job KIND SIZE NUMBER`. K and NUMBER have 1 to 20 decimal digits and are at most 2^64 - 1. LOCAL, PAIR and BITS have 1 to 7 decimal
+/// digits and are at most 1,000,000. KIND is `ring`, `ghz` or `parity`, and SIZE has 1 to 9 decimal digits and is 1 to 10,000 for a ring,
+/// 2 to 10 for a GHZ state and 1 to 9,000 for a parity. All other words, `run` and `run turns` among them, are answered by `Usage`.
+///
+/// All but `gen` and `job` read programs. The first three give the ranks their turns until all have ended, and write the state text: under
 /// `plain` each turn is the lowest rank's that is neither ended nor blocked, under the other two the one's that the seed K chooses, and
 /// `trace K` writes the events of the turns too. `mono` writes the text of the programs' one circuit, `mono amps` the state text of its
-/// amplitudes, and `check` the totals of the programs and whether their rendezvous run ends. `gen` writes the text of a made program,
-/// and `job` runs it as `plain` does and writes a summary of the run. All memory is taken before the first byte is written.
+/// amplitudes, and `check` the totals of the programs and whether their rendezvous run ends. `cost` plays as `sched K` does, and writes how
+/// long the schedule takes with these delays, and the chain of events that makes it so. `gen` writes the text of a made program, and `job`
+/// runs it as `plain` does and writes a summary of the run. All memory is taken before the first byte is written.
 pub fn tool_plain<I: Source, O: Sink>(
     alloc: Global,
     words: &[String],

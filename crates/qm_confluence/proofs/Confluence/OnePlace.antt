@@ -111,7 +111,7 @@ made_free t r h =
 
 -- ---- a slot
 module _ (t : IdealTables) (r q : ℕ) (o : Option Wire) where
-  slot_cases : (w : Wire) (s : Spot) → Stands (ideal_after_act r t (SlotSet q o)) w s → Stands t w s ⊎ ((s ≡ InSlot r q) × (o ≡ Some w))
+  pub slot_cases : (w : Wire) (s : Spot) → Stands (ideal_after_act r t (SlotSet q o)) w s → Stands t w s ⊎ ((s ≡ InSlot r q) × (o ≡ Some w))
   slot_cases w (InSlot k p) h =
       by_slot (λ v. v ≡ Some w → (t.slots k p ≡ Some w) ⊎ ((InSlot k p ≡ InSlot r q) × (o ≡ Some w))) t.slots r q o k p
       (λ e a. inr (ap₂ (λ i j. InSlot i j) e.rank e.slot, a)) (λ _ a. inl a) h
@@ -148,7 +148,7 @@ carried_push [] x h e = (e, tt)
 carried_push (y ∷ xs) x h e = (h.0, carried_push xs x h.1 e)
 
 module _ (t : IdealTables) (r : ℕ) (a : Lane) (x : Load) where
-  put_cases : (w : Wire) (s : Spot) → Stands (ideal_after_act r t (Puts a x)) w s → Stands t w s ⊎ ((s ≡ OnLane a) × (x ≡ Carried w))
+  pub put_cases : (w : Wire) (s : Spot) → Stands (ideal_after_act r t (Puts a x)) w s → Stands t w s ⊎ ((s ≡ OnLane a) × (x ≡ Carried w))
   put_cases w (InSlot k p) h = inl h
   put_cases w (OnLane b) h =
       by_lane (λ xs. Contains xs (Carried w) → Contains (t.lanes b) (Carried w) ⊎ ((OnLane b ≡ OnLane a) × (x ≡ Carried w))) t.lanes a (t.lanes a ++ x ∷ []) b
@@ -173,11 +173,11 @@ carried_drop [] h = h
 carried_drop (x ∷ xs) h = h.1
 
 -- the load at the front is a wire, on a lane that carries wires
-front_wire : (xs : List Load) → nat_lt 0 (length xs) ≡ true → AllCarried xs → slice_index_or xs 0 Token ≡ Carried (wire_carried (slice_index_or xs 0 Token))
+pub front_wire : (xs : List Load) → nat_lt 0 (length xs) ≡ true → AllCarried xs → slice_index_or xs 0 Token ≡ Carried (wire_carried (slice_index_or xs 0 Token))
 front_wire [] some h = absurd (let n : ⊥ = cc in n)
 front_wire (x ∷ xs) some h = h.0
 
-front_there : (xs : List Load) → nat_lt 0 (length xs) ≡ true → Contains xs (slice_index_or xs 0 Token)
+pub front_there : (xs : List Load) → nat_lt 0 (length xs) ≡ true → Contains xs (slice_index_or xs 0 Token)
 front_there [] some = absurd (let n : ⊥ = cc in n)
 front_there (x ∷ xs) some = (0, omega arith, refl)
 

@@ -1,5 +1,6 @@
 //! Commands over ends that fail.
 use super::calls::{answer, status_of, try_failing};
+use super::costs::{COPY_COST, COSTS};
 use super::made::MADE;
 use super::refusals::REFUSALS;
 use super::runs::{CIRCUITS, STATES, STOPS, TRACES};
@@ -12,7 +13,15 @@ use std::process::Abort;
 use std::test::Fail;
 
 /// The commands that read a program.
-const READING: [&str; 6] = ["plain", "sched 3", "trace 3", "mono", "mono amps", "check"];
+const READING: [&str; 7] = [
+    "plain",
+    "sched 3",
+    "trace 3",
+    "mono",
+    "mono amps",
+    "check",
+    "cost 3 1 10 5",
+];
 
 /// Tries that a command over a text that is read 16 bytes a call, where the call `failing` fails, ends as a failed read does, unless the
 /// text was read to its end before.
@@ -100,7 +109,15 @@ fn a_text_that_is_cut_off_is_refused(rt: HostRuntime) -> Result<(), Fail> {
 
 #[test]
 fn a_sink_that_fails_has_a_front_of_what_is_due(rt: HostRuntime) -> Result<(), Fail> {
-    for rows in [&STATES[..], &STOPS, &TRACES, &CIRCUITS, &REFUSALS, &MADE] {
+    for rows in [
+        &STATES[..],
+        &STOPS,
+        &TRACES,
+        &CIRCUITS,
+        &COSTS,
+        &REFUSALS,
+        &MADE,
+    ] {
         for (line, text, _, _) in rows {
             try_failing(&rt, rt.alloc(), line, text.as_bytes(), 8)?;
         }
@@ -116,12 +133,13 @@ fn a_sink_that_fails_has_a_front_of_what_is_due(rt: HostRuntime) -> Result<(), F
 }
 
 /// The words, the text, a read that fails, if there is one, what is due, and the room of a sink, which ends inside it.
-const FULL: [(&str, &str, u64, &str, usize); 8] = [
+const FULL: [(&str, &str, u64, &str, usize); 9] = [
     ("plain", COPY_ONE, 0, COPIED, 0),
     ("plain", COPY_ONE, 0, COPIED, 20),
     ("mono amps", COPY_ONE, 0, COPIED, 100),
     ("trace 3", COPY_ONE, 0, COPIED_IN_TURN, 107),
     ("trace 3", COPY_ONE, 0, COPIED_IN_TURN, 150),
+    ("cost 3 1 10 5", COPY_ONE, 0, COPY_COST, 30),
     ("check", "qmpi 3", 0, "refused unexpected line 1\n", 12),
     ("run", "", 0, "usage\n", 5),
     ("sched 1", COPY_ONE, 1, "read fault\n", 4),

@@ -77,6 +77,19 @@ fn twelve_state(alloc: Global) -> Result<String, AllocError> {
     Ok(text)
 }
 
+/// A program of 3,000 events of one rank.
+const SETS: &str = "qmpi 1 ranks 1 qubits 1 buffer 1 rank 0 for i in 0..3000 { set 0 1 } end";
+
+/// What it costs where each event takes 2.
+fn sets_cost(alloc: Global) -> Result<String, AllocError> {
+    let mut text = String::from_str(alloc, "cost 1\nevents 3000\ntime 6000\nchain 3000\n")?;
+    for number in 0..3_000u32 {
+        text.push_str(format!(in alloc; "{number} 0 set {}\n", 2 * number + 2)?.as_str())?;
+    }
+    text.push_str("end\n")?;
+    Ok(text)
+}
+
 #[test]
 fn an_answer_of_many_pages_is_flushed_once_and_fails_at_each(rt: HostRuntime) -> Result<(), Fail> {
     let alloc = rt.alloc();
@@ -90,6 +103,15 @@ fn an_answer_of_many_pages_is_flushed_once_and_fails_at_each(rt: HostRuntime) ->
         expect(&rt, alloc, line, TWELVE.as_bytes(), (0, due.as_str()))?;
         try_failing(&rt, alloc, line, TWELVE.as_bytes(), 10_000)?;
     }
+    let due = sets_cost(alloc)?;
+    expect(
+        &rt,
+        alloc,
+        "cost 3 2 1 1",
+        SETS.as_bytes(),
+        (0, due.as_str()),
+    )?;
+    try_failing(&rt, alloc, "cost 3 2 1 1", SETS.as_bytes(), 10_000)?;
     try_failing(&rt, alloc, "gen ring 10000 1", b"", 10_000)
 }
 

@@ -24,6 +24,10 @@ pub(super) const COPIED_IN_TURN: &str =
         live 0.0 1.0\n00 1 0 0 0\n11 1 0 0 0\nend\n\
         turns 7\n0 alloc\n0 gate\n0 pair\n0 cx\n0 post\n1 deliver\n1 fix-x\nend\n";
 
+/// Two ranks of eight events each, none of which waits.
+pub(super) const EIGHT_EACH: &str =
+    "qmpi 1 ranks 2 qubits 1 buffer 1 all for i in 0..8 { set 0 0 } end";
+
 /// A copy that is given back to its source.
 pub(super) const COPY_AND_BACK: &str =
     "qmpi 1 ranks 2 qubits 1 buffer 1 rank 0 alloc 0 h 0 copyto 0 1 7 undofrom 0 1 8 end \
@@ -67,6 +71,34 @@ pub(super) const BROADCAST: &str =
 pub(super) const BROADCAST_STATE: &str = "state 1\nranks 4\n\
         protocol 3\nscale 4\nbits 0 00000000\nbits 1 00000000\nbits 2 00000000\nbits 3 00000000\n\
         live 0.0 1.0 2.0 3.0\n0000 1 0 0 0\n1111 1 0 0 0\nend\n";
+
+/// The same copies along a tree: rank 0 makes those of the ranks 1 and 2, and rank 1 that of rank 3.
+pub(super) const TREE: &str = "qmpi 2 ranks 4 qubits 1 1 1 1 buffer 1 1 1 1 \
+        rank 0 alloc 0 h 0 treecast 0 0 5 end rank 1 treecast 0 0 5 end \
+        rank 2 treecast 0 0 5 end rank 3 treecast 0 0 5 end protocol 0 b10 protocol 1 b1";
+
+/// Copies along a tree from rank 2, which go back.
+pub(super) const TREE_UNDONE: &str = "qmpi 2 ranks 4 qubits 1 1 1 1 buffer 1 1 1 1 \
+        rank 0 treecast 0 2 5 untreecast 0 2 6 end rank 1 treecast 0 2 5 untreecast 0 2 6 end \
+        rank 2 alloc 0 h 0 treecast 0 2 5 untreecast 0 2 6 end rank 3 treecast 0 2 5 untreecast 0 2 6 end \
+        protocol 0 b1 protocol 1 b0 protocol 2 b11 protocol 3 b01";
+
+/// What they leave.
+pub(super) const TREE_UNDONE_STATE: &str = "state 1\nranks 4\nprotocol 6\nscale 7\n\
+        bits 0 00000000\nbits 1 00000000\nbits 2 00000000\nbits 3 00000000\n\
+        live 2.0\n0 1 0 0 0\n1 1 0 0 0\nend\n";
+
+/// Copies along a tree from rank 3, which each rank turns before they go back: by 1, 2, 4, 2, 7 and 1 eighths, 17 in all.
+pub(super) const TREE_TURNED: &str = "qmpi 2 ranks 5 qubits 1 1 1 1 1 buffer 1 2 1 1 2 \
+        rank 0 treecast 0 3 5 tdg 0 untreecast 0 3 6 end rank 1 treecast 0 3 5 s 0 untreecast 0 3 6 end \
+        rank 2 treecast 0 3 5 t 0 untreecast 0 3 6 end rank 3 alloc 0 h 0 t 0 treecast 0 3 5 s 0 untreecast 0 3 6 end \
+        rank 4 treecast 0 3 5 z 0 untreecast 0 3 6 end \
+        protocol 0 b1 protocol 1 b0 protocol 2 b1 protocol 3 b01 protocol 4 b110";
+
+/// What they leave: the qubit, turned by one eighth.
+pub(super) const TREE_TURNED_STATE: &str = "state 1\nranks 5\nprotocol 8\nscale 9\n\
+        bits 0 00000000\nbits 1 00000000\nbits 2 00000000\nbits 3 00000000\nbits 4 00000000\n\
+        live 3.0\n0 1 0 0 0\n1 0 1 0 0\nend\n";
 
 /// Two ranks that each wait for the other.
 pub(super) const BOTH_WAIT: &str =

@@ -7,7 +7,7 @@ use super::programs::PROGRAMS;
 use super::runs::{STATES, STOPS};
 use super::texts::{
     ALL_WAIT, BOTH_WAIT, BROADCAST, BROADCAST_STATE, COPIED, COPIED_IN_TURN, COPY_ONE, PLUS,
-    PLUS_STATE,
+    PLUS_STATE, TREE, TREE_UNDONE, TREE_UNDONE_STATE,
 };
 use super::watched::WatchedSink;
 use qm_io::MemSource;
@@ -47,8 +47,10 @@ const NOT_THE_SAME: &str =
         rank 1 copyfrom 0 0 1 x 0 undoto 0 0 2 end protocol 0 b0 protocol 1 b0";
 
 /// Runs whose answer is one alone, texts that are refused, words that ask for no threads, and words that are no command.
-const ANSWERS: [Row; 18] = [
+const ANSWERS: [Row; 20] = [
     ("run", COPY_ONE, 0, COPIED),
+    ("run", TREE, 0, BROADCAST_STATE),
+    ("run", TREE_UNDONE, 0, TREE_UNDONE_STATE),
     ("run turns", COPY_ONE, 0, COPIED_WITH_TURNS),
     (
         "run",

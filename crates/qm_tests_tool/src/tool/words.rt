@@ -1,6 +1,6 @@
 //! The reading of words, at both sides of each bound.
 use super::calls::expect;
-use super::texts::PLUS;
+use super::texts::{EIGHT_EACH, PLUS};
 use super::watched::WatchedSink;
 use qm_io::SureSource;
 use qm_tool::{Status, tool_plain};
@@ -9,7 +9,7 @@ use std::process::Abort;
 use std::test::Fail;
 
 /// Words that are no command.
-const USAGE: [&str; 35] = [
+const USAGE: [&str; 44] = [
     "",
     "run more",
     "run turns more",
@@ -45,6 +45,15 @@ const USAGE: [&str; 35] = [
     "plain ghz 3 1",
     "ghz 3 1",
     "gen 3 ghz 1",
+    "cost",
+    "cost 1",
+    "cost 1 1 1",
+    "cost 1 1 1 1 1",
+    "cost 1 1 1 +1",
+    "Cost 1 1 1 1",
+    "costs 1 1 1 1",
+    "trace 1 1 1 1",
+    "cost ghz 3 1",
 ];
 
 #[test]
@@ -73,9 +82,6 @@ const NUMBERS: [(&str, &str, &str); 7] = [
         "1011111110000000",
     ),
 ];
-
-/// Two ranks of eight events each, none of which waits.
-const EIGHT_EACH: &str = "qmpi 1 ranks 2 qubits 1 buffer 1 all for i in 0..8 { set 0 0 } end";
 
 /// What they leave, up to their turns.
 const EIGHT_DONE: &str =
@@ -154,6 +160,33 @@ fn no_other_word_is_a_number(rt: HostRuntime) -> Result<(), Fail> {
             &["trace", word],
             &["gen", "ghz", "2", word],
             &["job", "ghz", "2", word],
+            &["cost", word, "1", "1", "1"],
+            &["cost", "1", word, "1", "1"],
+            &["cost", "1", "1", word, "1"],
+            &["cost", "1", "1", "1", word],
+        ] {
+            try_usage(&rt, rt.alloc(), words)?;
+        }
+    }
+    Ok(())
+}
+
+/// Numbers that are no delay: they are too large, or have too many digits.
+const NO_DELAYS: [&str; 5] = [
+    "1000001",
+    "9999999",
+    "00000001",
+    "10000000",
+    "18446744073709551615",
+];
+
+#[test]
+fn a_delay_has_1_to_7_digits(rt: HostRuntime) -> Result<(), Fail> {
+    for word in NO_DELAYS {
+        for words in [
+            &["cost", "1", word, "1", "1"][..],
+            &["cost", "1", "1", word, "1"],
+            &["cost", "1", "1", "1", word],
         ] {
             try_usage(&rt, rt.alloc(), words)?;
         }

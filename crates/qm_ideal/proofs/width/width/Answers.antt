@@ -5,7 +5,7 @@ use Rattle.std.proofs.lemmas.List.Sums.{length-filter, count_by-le-length}
 use Rattle.qm_denot.specs.declared.Letter.{Letter}
 use Rattle.qm_denot.specs.declared.Letter.TheVariants.{Phase}
 use Rattle.qm_proto.specs.Model.Ideal.{width}
-use Rattle.qm_ideal.specs.Widths.{lacked}
+use Rattle.qm_ideal.specs.Widths.{is_unnamed}
 use Rattle.qm_ideal.proofs.WidthLemmas.{IsSoWide, wide_more, wide_end}
 use Rattle.qm_ideal.proofs.width.width.Goals as goal
 
@@ -19,8 +19,8 @@ loop-letter-preserved c =
     let i = c.loop-letter.letter-index in
     let ends = c.args.ends.now in
     let all = width letters ends in
-    let lack = lacked c.loop-letter.named in
-    let lack' = lacked c.note_all.new.named in
+    let lack = is_unnamed c.loop-letter.named in
+    let lack' = is_unnamed c.note_all.new.named in
     let live = c.loop-letter.live.items in
     let now = c.prepare.new.live in
     let live' = c.pass.new.live.items in
@@ -35,7 +35,7 @@ loop-letter-preserved c =
 pub overflow_add-len : goal.overflow_add-len
 overflow_add-len c =
     let long = c.len-2.ensures in
-    let some : length (filter (lacked c.loop-letter.named) c.args.ends.now) ≤ length c.args.ends.now = (let e = length-filter (lacked c.loop-letter.named) c.args.ends.now in let l = count_by-le-length (lacked c.loop-letter.named) c.args.ends.now in omega (arith, e, l)) in
+    let some : length (filter (is_unnamed c.loop-letter.named) c.args.ends.now) ≤ length c.args.ends.now = (let e = length-filter (is_unnamed c.loop-letter.named) c.args.ends.now in let l = count_by-le-length (is_unnamed c.loop-letter.named) c.args.ends.now in omega (arith, e, l)) in
     let count = c.unnamed.ensures in
     let cap = c.loop-letter.live.ok.1 in
     let small = c.loop-letter.live.small in
@@ -46,7 +46,7 @@ pub returns : goal.returns
 returns c =
     let letters = c.args.letters.now in
     let ends = c.args.ends.now in
-    let lack = lacked c.loop-letter.named in
+    let lack = is_unnamed c.loop-letter.named in
     let live = c.loop-letter.live in
     let none = drop_of_length-le letters c.loop-letter-test.false in
     let last = subst (λ ls. IsSoWide lack live.items c.loop-letter.widest ls ends (width letters ends)) none c.loop-letter.invariant in

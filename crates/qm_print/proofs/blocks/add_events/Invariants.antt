@@ -8,4 +8,4 @@ use Rattle.qm_print.proofs.blocks.add_events.Given as goal
 abbrev pub invariant-loop-rank : goal.invariant-loop-rank
 invariant-loop-rank g l =
     Added (g.O.Sink.seen l.fn.sink) (g.O.Sink.seen l.sink) l.fn.page l.page (event_lines l.input (state_at_start l.input) (take l.rank-index l.schedule))
-    × HasWalked l.input l.schedule l.rank-index l.places
+    × HasWalked l.input l.schedule l.rank-index l.positions

@@ -1,9 +1,8 @@
 use Rattle.std.proofs.Common.{◌∙◌, sym, ap, ◌+◌, ◌<◌, drop, length, Err, cond, arith}
 use Rattle.std.specs.Prelude.{slice_get}
-use Rattle.qm_collect.specs.Table.{instructions_at}
 use Rattle.qm_expand.specs.Steps.{◌>>=◌, OutOfRange}
 use Rattle.qm_expand.specs.Drafts.{with_each}
-use Rattle.qm_expand.specs.Expansion.{can_be_called}
+use Rattle.qm_expand.specs.Expansion.{can_be_called, part_of}
 use Rattle.qm_expand.specs.declared.draft.Draft.{Draft}
 use Rattle.qm_expand.specs.Views.{draft_seen}
 use Rattle.qm_expand.proofs.DraftLemmas.{Answers-exit, each_more, some_within}
@@ -12,11 +11,11 @@ use Rattle.qm_expand.proofs.draft.Draft.share.Goals.{in-Some+in_ok-add, in_defau
 
 pub returns-in_err-add-clause-answers : goal.returns-in_err-add-clause-answers
 returns-in_err-add-clause-answers c =
-    let is = instructions_at c.args.which c.args.scope.rank c.args.scope.ranks in
+    let is = part_of c.args.which c.args.scope.rank c.args.scope.ranks in
     let line = c.args.line in
     let rank = c.args.scope.rank in
     let all = c.ranks-ranks.ensures.value ∙ sym c.requires.ranks in
-    let found = ap (λ n. slice_get (instructions_at c.args.which rank n) c.loop-j.j) (sym all) ∙ sym c.in-Some.ensures in
+    let found = ap (λ n. slice_get (part_of c.args.which rank n) c.loop-j.j) (sym all) ∙ sym c.in-Some.ensures in
     let called = ap (λ n. can_be_called n c.args.which) (sym all) ∙ sym c.if-not-can_be_called.ensures in
     Answers-exit _ _ _ _ (with_each line rank (drop (c.loop-j.j + 1) is)) _ c.from_residual.ensures.1 c.in_err-add.ensures.answers
     (ap (λ b. cond b (with_each line rank is (draft_seen c.args.self.now)) (Err (OutOfRange line))) called
@@ -24,13 +23,13 @@ returns-in_err-add-clause-answers c =
 
 pub loop-j-preserved : goal.loop-j-preserved
 loop-j-preserved c =
-    let is = instructions_at c.args.which c.args.scope.rank c.args.scope.ranks in
+    let is = part_of c.args.which c.args.scope.rank c.args.scope.ranks in
     let line = c.args.line in
     let rank = c.args.scope.rank in
     let all = c.ranks-ranks.ensures.value ∙ sym c.requires.ranks in
-    elim c.match-instr_at.branch [
+    elim c.match-part_at.branch [
       | in-Some+in_ok-add w ↦
-          let found = ap (λ n. slice_get (instructions_at c.args.which rank n) c.loop-j.j) (sym all) ∙ sym w.in-Some.ensures in
+          let found = ap (λ n. slice_get (part_of c.args.which rank n) c.loop-j.j) (sym all) ∙ sym w.in-Some.ensures in
           let rest = drop (c.loop-j.j + 1) is in
           record {
             ranks = ap (λ (d : Draft). length d.input.ranks) w.self-is ∙ w.in_ok-add.ensures.ranks ∙ c.loop-j.invariant.ranks;
@@ -41,7 +40,7 @@ loop-j-preserved c =
                 ∙ c.loop-j.invariant.rest;
           }
       | in_default w ↦
-          let low : c.loop-j.j < length (instructions_at c.args.which rank c.ranks-ranks.result) = let n = c.count-j-end.ensures in omega arith in
-          let some = some_within (instructions_at c.args.which rank c.ranks-ranks.result) c.loop-j.j low in
-          absurd (w.in_default.not-Some some.0 (c.instr_at.ensures ∙ some.1))
+          let low : c.loop-j.j < length (part_of c.args.which rank c.ranks-ranks.result) = let n = c.part_len-j-end.ensures in omega arith in
+          let some = some_within (part_of c.args.which rank c.ranks-ranks.result) c.loop-j.j low in
+          absurd (w.in_default.not-Some some.0 (c.part_at.ensures ∙ some.1))
     ]

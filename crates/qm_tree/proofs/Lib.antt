@@ -1,0 +1,5 @@
+mod Places
+mod Counts
+mod Copying
+pub mod Messages
+mod TreeLaws

@@ -1,0 +1,4 @@
+pub mod Trees
+pub mod Letters
+pub mod Laws
+pub mod WorkedTrees
