@@ -1,6 +1,7 @@
 #!/usr/bin/env bash
 # usage: threads.sh [PROGRAM [RUNS]]; without them the program that `rt ci` has left, and 2,000 runs of each text.
-# Runs a ring of 300 rounds and a parity of 200 rounds on 4 ranks under `run`, idle and beside a program that keeps all processors busy.
+# Runs a ring of 300 rounds and a parity of 200 rounds on 4 ranks under `run`, idle and beside a program that keeps all processors busy, in a
+# session of its own, as another user's program would be.
 # Each run must end within 60 seconds with the bytes of `plain`. Then it prints nanoseconds for an event under `plain` and under `run`, how
 # many changes of rank the schedules of `run turns` had, and processor time over wall time while one rank waits for another's long work.
 set -euo pipefail
@@ -47,7 +48,7 @@ for text in ring parity; do
   all_equal "$text" "nothing else to do"
 done
 for _ in $(seq "$(nproc)"); do
-  (while :; do :; done) &
+  setsid bash -c "while :; do :; done" &
   busy+=($!)
 done
 for text in ring parity; do

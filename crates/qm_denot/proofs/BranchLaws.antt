@@ -5,10 +5,10 @@ use Rattle.qm_zomega.specs.Numbers.{zero_number}
 use Rattle.qm_denot.specs.declared.Wire.{Wire}
 use Rattle.qm_denot.specs.Wires.{Wires, has}
 use Rattle.qm_denot.specs.WireLists.{Distinct}
-use Rattle.qm_denot.specs.Places.{has_place, index_of, is_within, IsFirstAt}
+use Rattle.qm_denot.specs.Places.{has_place, index_of, is_within, IsFirstAt, set_at}
 use Rattle.qm_denot.specs.ListStores.{listed_value}
 use Rattle.qm_zomega.specs.NumberLists.{number_at}
-use Rattle.qm_denot.proofs.PlaceLaws.{has-index, index_below, set_at, index-set_at, within-set_at}
+use Rattle.qm_denot.proofs.PlaceLaws.{has-index, index_below, index-set_at, within-set_at}
 
 -- the value of a set is zero if the number at its index is
 zero_value : (live : List Wire) (zs : List Zw) (x : Wires) → number_at zs (index_of live x) ≡ zero_number → listed_value live zs x ≡ zero_number
@@ -19,7 +19,7 @@ pub listed_value-set_at : (live : List Wire) (zs : List Zw) (k : ℕ) → Distin
 listed_value-set_at live zs k d h = let within = within-set_at live k d in let index = index-set_at live k d h in rw (within, index) refl
 
 -- and its wires are the bits of the index
-has-set_at : (live : List Wire) (p : ℕ) (w : Wire) (k : ℕ) → Distinct live → IsFirstAt live p w → k < 2 ^ length live → has (set_at live k) w ≡ has_place p k
+pub has-set_at : (live : List Wire) (p : ℕ) (w : Wire) (k : ℕ) → Distinct live → IsFirstAt live p w → k < 2 ^ length live → has (set_at live k) w ≡ has_place p k
 has-set_at live p w k d at h = sym (has-index live p w (set_at live k) at) ∙ ap (has_place p) (index-set_at live k d h)
 
 module _ (live : List Wire) (zs : List Zw) (distinct : Distinct live) where

@@ -10,12 +10,12 @@ use Rattle.qm_denot.specs.Wires.{Wires, has, put}
 use Rattle.qm_denot.specs.WireLists.{Distinct}
 use Rattle.qm_denot.specs.Circuits.{Amplitudes, with_letter}
 use Rattle.qm_denot.specs.Stores.{Overflows}
-use Rattle.qm_denot.specs.Places.{index_of, is_within, IsFirstAt}
+use Rattle.qm_denot.specs.Places.{index_of, is_within, IsFirstAt, set_at}
 use Rattle.qm_denot.specs.LettersByPlace.{had_at}
 use Rattle.qm_denot.specs.ListStores.{listed_value, listed_store}
 use Rattle.qm_zomega.specs.NumberLists.{number_at}
 use Rattle.qm_denot.proofs.Sets.{has-put_same, put_twice, put_has}
-use Rattle.qm_denot.proofs.PlaceLaws.{index_below, set_at, index-set_at, within-set_at}
+use Rattle.qm_denot.proofs.PlaceLaws.{index_below, index-set_at, within-set_at}
 use Rattle.qm_denot.proofs.KeepingLaws.{had_value}
 
 -- ---- the row of `Had`, at a set without the wire and at the same set with it

@@ -6,7 +6,7 @@ use Rattle.std.proofs.Math.Nat.{pow-suc, pow-succ', div-div-eq-div-mul}
 use Rattle.qm_denot.specs.declared.Wire.{Wire}
 use Rattle.qm_denot.specs.Wires.{Wires, has, put, is_empty, no_wires}
 use Rattle.qm_denot.specs.WireLists.{Lacks, Distinct}
-use Rattle.qm_denot.specs.Places.{bit_of, has_place, set_place, index_of, without, is_within, IsFirstAt}
+use Rattle.qm_denot.specs.Places.{bit_of, has_place, set_place, index_of, without, is_within, set_at, IsFirstAt}
 use Rattle.qm_denot.proofs.NameLists.{not_sym}
 use Rattle.qm_denot.proofs.Sets.{has-put_same, has-put_other, put_twice, put_swap, put_has, not_empty, has-no_wires, is_empty-no_wires}
 
@@ -19,7 +19,7 @@ pub rest_bit : (b : Bool) (k : ℕ) → (bit_of b + 2 * k) % 2 ≡ bit_of b
 rest_bit true k = omega arith
 rest_bit false k = omega arith
 
-test_bit : (b : Bool) → nat_eq (bit_of b) 1 ≡ b
+pub test_bit : (b : Bool) → nat_eq (bit_of b) 1 ≡ b
 test_bit true = refl
 test_bit false = refl
 
@@ -101,10 +101,6 @@ pub place_cleared : (p k : ℕ) → has_place p k ≡ true → set_place p false
 place_cleared p k e = let c = set_place-closed p false k in let d = rw e at c in omega arith
 
 -- ---- the set with a given index
-unfoldable pub set_at : List Wire → ℕ → Wires
-set_at [] k = no_wires
-set_at (w ∷ ws) k = put (set_at ws (k / 2)) w (nat_eq (k % 2) 1)
-
 bit_of-test : (k : ℕ) → bit_of (nat_eq (k % 2) 1) ≡ k % 2
 bit_of-test k = grind (arith, nat_tests)
 

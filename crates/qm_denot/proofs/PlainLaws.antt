@@ -9,11 +9,11 @@ use Rattle.qm_denot.specs.Wires.{Wires, has, put}
 use Rattle.qm_denot.specs.WireLists.{Distinct}
 use Rattle.qm_denot.specs.Circuits.{Amplitudes, with_letter, halves_of}
 use Rattle.qm_denot.specs.Stores.{live_after}
-use Rattle.qm_denot.specs.Places.{index_of, is_within}
+use Rattle.qm_denot.specs.Places.{index_of, is_within, set_at}
 use Rattle.qm_denot.specs.ListStores.{listed_value, listed_store, Does}
 use Rattle.qm_zomega.specs.NumberLists.{number_at, AllDivisible, IsReducedList, Reduces}
 use Rattle.qm_denot.specs.Sound.{DivisibleOver, Keeps, reduced_where_kept}
-use Rattle.qm_denot.proofs.PlaceLaws.{not_within, set_at}
+use Rattle.qm_denot.proofs.PlaceLaws.{not_within}
 use Rattle.qm_denot.proofs.Numerators.{number_past, side}
 use Rattle.qm_denot.proofs.LiveWires.{Lacks-from_absent}
 use Rattle.qm_denot.proofs.BranchLaws.{listed_value-set_at}

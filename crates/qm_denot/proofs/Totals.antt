@@ -30,7 +30,7 @@ total-zero [] f x none = none x
 total-zero (w ∷ ws) f x none = let a = total-zero ws f (put x w false) none in let b = total-zero ws f (put x w true) none in rw (a, b) refl
 
 -- a wire that is not summed over stays as it is put
-total-put : (ws : List Wire) (w : Wire) (b : Bool) (f : Wires → ℕ) (x : Wires) → Lacks ws w → total ws f (put x w b) ≡ total ws (λ y. f (put y w b)) x
+pub total-put : (ws : List Wire) (w : Wire) (b : Bool) (f : Wires → ℕ) (x : Wires) → Lacks ws w → total ws f (put x w b) ≡ total ws (λ y. f (put y w b)) x
 total-put [] w b f x l = refl
 total-put (v ∷ ws) w b f x l =
     let at : (t : Bool) → total ws f (put (put x w b) v t) ≡ total ws (λ y. f (put y w b)) (put x v t) =

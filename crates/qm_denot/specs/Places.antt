@@ -2,7 +2,7 @@
 use Rattle.std.specs.Prelude.{◌≡◌, ◌≢◌, ℕ, ◌+◌, ◌*◌, ◌/◌, ◌%◌, ◌^◌, ◌<◌, nat_eq, Bool, true, false, List, [], ◌∷◌}
 use Rattle.std.proofs.Common.{zero, suc}
 use Rattle.qm_denot.specs.declared.Wire.{Wire}
-use Rattle.qm_denot.specs.Wires.{Wires, has, put, is_empty}
+use Rattle.qm_denot.specs.Wires.{Wires, has, put, no_wires, is_empty}
 
 -- 1 for true, 0 for false
 abbrev pub bit_of : Bool → ℕ
@@ -37,6 +37,11 @@ without x (w ∷ ws) = without (put x w false) ws
 -- whether each wire of x is in the list
 abbrev pub is_within : Wires → List Wire → Bool
 is_within x ws = is_empty (without x ws)
+
+-- the set of those wires of the list at whose place the index has a one
+unfoldable pub set_at : List Wire → ℕ → Wires
+set_at [] k = no_wires
+set_at (w ∷ ws) k = put (set_at ws (k / 2)) w (nat_eq (k % 2) 1)
 
 -- w stands at place p of the list, and nowhere before
 abbrev pub IsFirstAt : List Wire → ℕ → Wire → Type 0

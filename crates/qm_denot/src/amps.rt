@@ -1,9 +1,10 @@
 //! What every store of amplitudes does: the letters of circuits, and questions about branches.
-ghost use Rattle.std.specs.Prelude.{◌≡◌, ◌≢◌, ◌+◌, ◌<◌, ◌↔◌, true, false, List, [], ◌∷◌, ◌++◌, length, All, Contains, IsTrue, OnOk, OnErr, IsErr};
+ghost use Rattle.std.specs.Prelude.{◌≡◌, ◌≢◌, ◌+◌, ◌<◌, ◌^◌, ◌↔◌, true, false, List, [], ◌∷◌, ◌++◌, length, All, Contains, IsTrue, OnOk, OnErr, IsErr};
 ghost use Rattle.qm_zomega.specs.Zw.{value_of};
 ghost use Rattle.qm_zomega.specs.Numbers.{zero_number};
 ghost use Rattle.qm_denot.specs.Wires.{Wires, has};
 ghost use Rattle.qm_denot.specs.WireLists.{Distinct, wires_of};
+ghost use Rattle.qm_denot.specs.Places.{set_at};
 ghost use Rattle.qm_denot.specs.Circuits.{Circuit};
 ghost use Rattle.qm_denot.specs.Stores.{Store, StandsFor, IsSound, MayApply, Overflows, live_after};
 
@@ -104,6 +105,11 @@ pub trait Amps: Drop {
         requires live { All (Contains (store self.now).live) ones.now }
         requires distinct { Distinct ones.now }
         ensures { value_of result ≡ (store self.now).value (wires_of ones.now) };
+
+    /// The numerator at an index: place p of an index is the live wire at position p.
+    fn numerator(&self, index: usize) -> Zw
+        requires { index < 2 ^ length (store self.now).live }
+        ensures { value_of result ≡ (store self.now).value (set_at (store self.now).live index) };
 
     /// Every value of the type keeps each live wire once, room for them, zeros outside the live wires, and a reduced form.
     ghost sound: { (s : Self) → IsSound (store s) };

@@ -9,6 +9,7 @@ mod worked;
 pub use amps::{Amps, Overflow};
 pub use plain::PlainAmps;
 pub use plain::branches::{any_unequal, any_with};
+pub use plain::places::{bit_at, power};
 pub use plain::wires::{index_at, place_of};
 
 /// A qubit's name: the rank that made it, its number among the wires of that rank, and which half of an EPR pair it is.

@@ -275,6 +275,10 @@ impl Amps for PlainAmps {
         self.numerators[index_at(&self.live, ones)]
     }
 
+    fn numerator(&self, index: usize) -> Zw {
+        self.numerators[index]
+    }
+
     ghost sound = { λ s. listed_sound s.capacity s.live.items s.exponent s.numerators.items
         s.few s.kept };
 }

@@ -5,16 +5,17 @@ use Rattle.qm_proto.specs.Model.Ideal as model
 use Rattle.qm_proto.specs.Model.Ideal.{IdealTables, IdealState, has_instr, AllDone}
 use Rattle.qm_ideal.specs.declared.run.Run.{Run}
 use Rattle.qm_ideal.specs.declared.tables.IdealRank.{IdealRank}
-use Rattle.qm_ideal.specs.OneCircuits.{OneView, IsOneCircuit, EndsEarly, left_from, wires_below, wires_in, slot_of}
+use Rattle.qm_ideal.specs.OneCircuits.{IsOneCircuit, EndsEarly, left_from, wires_below, wires_in, slot_of}
+use Rattle.qm_confluence.specs.Told.{filled}
+use Rattle.qm_confluence.proofs.Confluence.Told.{filled_state}
 use Rattle.qm_ideal.specs.OneRuns.{IsItsEnd}
-use Rattle.qm_ideal.specs.Views.{state_of, tables_of, slots_at, view_of_run, end_of, part_in, bits_in}
+use Rattle.qm_ideal.specs.Views.{state_of, slots_at, view_of_run, end_of, part_in, bits_in}
 use Rattle.qm_ideal.proofs.NumberLemmas.{slot_at_end, bits_at_end}
 use Rattle.std.proofs.Math.Path.{fun_ext}
 use Rattle.std.proofs.lemmas.List.{length-map, length-append}
 use Rattle.std.specs.Prelude.{option_to_list}
 use Rattle.qm_denot.specs.declared.Wire.{Wire}
 use Rattle.std.proofs.Common.{Option, Some, None, slice_get}
-use Rattle.qm_instr.specs.Programs.{RankProgram, rank_of}
 
 -- ---- which ranks are left
 digit_none : (b : Bool) (m : ℕ) → (if b then 1 else 0) + 2 * m ≡ 0 → (b ≡ false) × (m ≡ 0)
@@ -39,7 +40,7 @@ left_some p t r (suc n) none =
     let rest : left_from p t (r + 1) n ≡ 0 = left_some p t (r + 1) n (λ k below. let y : r + 1 + k ≡ r + suc k = omega arith in ap (has_instr p t) y ∙ none (suc k) (omega (arith, below))) in
     ap (λ b. (if b then 1 else 0) + 2 * left_from p t (r + 1) n) first ∙ omega (arith, rest)
 
-done_where_none : (p : Programs) (t : IdealTables) → left_from p t 0 (length p.ranks) ≡ 0 → AllDone p t
+pub done_where_none : (p : Programs) (t : IdealTables) → left_from p t 0 (length p.ranks) ≡ 0 → AllDone p t
 done_where_none p t e r known = let z : 0 + r ≡ r = omega arith in sym (ap (has_instr p t) z) ∙ left_none p t 0 (length p.ranks) e r known
 
 none_where_done : (p : Programs) (t : IdealTables) → AllDone p t → left_from p t 0 (length p.ranks) ≡ 0
@@ -56,33 +57,34 @@ ends_early p s left end is some =
     }
 
 -- ---- or it doesn't
-bits_are : (x : RankProgram) (o : Option IdealRank) → bits_in o ≡ (part_in x o).bits
-bits_are x None = refl
-bits_are x (Some k) = refl
+bits_are : (o : Option IdealRank) → bits_in o ≡ (part_in o).bits
+bits_are None = refl
+bits_are (Some k) = refl
 
-pub one_circuit : (p : Programs) (x : Run) (m : OneView) → IsItsEnd p (state_of p x) → length x.tables.ranks.items ≡ length p.ranks
-    → left_from p (tables_of p x.tables) 0 (length p.ranks) ≡ 0
-    → m ≡ view_of_run (length p.ranks) x
-    → IsOneCircuit p m
-one_circuit p x m end count none is =
-    let s = state_of p x in
+pub circuit_at_end : (p : Programs) (x : Run) (left : ℕ → List Bool) → IsItsEnd p (filled_state left (state_of x)) → length x.tables.ranks.items ≡ length p.ranks
+    → AllDone p (filled_state left (state_of x)).tables → IsOneCircuit p (view_of_run (length p.ranks) x)
+circuit_at_end p x left end count done =
     let ranks = x.tables.ranks.items in
     let long : length (map end_of ranks) ≡ length p.ranks = length-map ranks end_of ∙ count in
     let v = view_of_run (length p.ranks) x in
     let slots : slots_at ranks ≡ slot_of v = fun_ext (λ r. fun_ext (λ q. sym (slot_at_end ranks r q))) in
-    let here : IsOneCircuit p v = record {
+    record {
       ranks = end.ranks;
       run = end.run;
-      done = subst (λ (u : IdealState). AllDone p u.tables) (sym end.state) (done_where_none p s.tables none);
+      done = subst (λ (u : IdealState). AllDone p u.tables) (sym end.state) done;
       letters = ap (λ (u : IdealState). u.circuit) (sym end.state);
       count = long;
       bits = λ r known.
-          bits_at_end ranks r (subst (λ n. r < n) (sym count) known) ∙ bits_are (rank_of p r) (slice_get ranks r)
+          bits_at_end ranks r (subst (λ n. r < n) (sym count) known) ∙ bits_are (slice_get ranks r)
           ∙ ap (λ (u : IdealState). (u.tables.parts r).bits) (sym end.state);
       slots = λ r q. slot_at_end ranks r q ∙ ap (λ (u : IdealState). u.tables.slots r q) (sym end.state);
       wide = ap (λ f. model.width x.letters.items (wires_in f (length p.ranks))) slots ∙ ap (λ n. model.width x.letters.items (wires_in (slot_of v) n)) (sym long);
-    } in
-    subst (IsOneCircuit p) (sym is) here
+    }
+
+-- the tapes don't tell which ranks are left
+pub left_alike : (p : Programs) (t : IdealTables) (left : ℕ → List Bool) (r n : ℕ) → left_from p (filled left t) r n ≡ left_from p t r n
+left_alike p t left r zero = refl
+left_alike p t left r (suc n) = ap (λ k. (if has_instr p t r then 1 else 0) + 2 * k) (left_alike p t left (r + 1) n)
 
 -- ---- few wires stand in slots
 below_few : (f : ℕ → Option Wire) (n : ℕ) → length (wires_below f n) ≤ n

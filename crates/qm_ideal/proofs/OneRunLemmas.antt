@@ -1,5 +1,5 @@
 -- The run of the lowest enabled ranks: how it goes on, where it ends, and that it does
-use Rattle.std.proofs.Common.{◌≡◌, ◌≢◌, ℕ, ◌+◌, ◌-◌, ◌<◌, ◌≤◌, false, List, [], ◌∷◌, ◌++◌, length, fold, refl, sym, ap, subst, ◌∙◌, arith}
+use Rattle.std.proofs.Common.{◌≡◌, ◌≢◌, ℕ, ◌+◌, ◌-◌, ◌<◌, ◌≤◌, false, List, [], ◌∷◌, length, fold, sym, ap, subst, ◌∙◌, arith}
 use Rattle.std.proofs.lemmas.Option.{slice_get_within}
 use Rattle.qm_instr.specs.declared.Instr.{Instr}
 use Rattle.qm_instr.specs.declared.Instr.TheVariants as instr
@@ -11,28 +11,11 @@ use Rattle.qm_confluence.proofs.Confluence.ByView.{View, acts_by, view}
 use Rattle.qm_confluence.proofs.Confluence.Helpers.{IsNextInstr, next_where_able}
 use Rattle.qm_confluence.proofs.Confluence.WellIdeal.{at_same}
 use Rattle.qm_confluence.proofs.Confluence.Diamond.{next_is}
-use Rattle.qm_ideal.specs.OneRuns.{IsLowestFrom, IsOnTheWay, IsItsEnd, instructions_left}
+use Rattle.qm_confluence.specs.Drawn.{IsLowestFrom}
+use Rattle.qm_ideal.specs.OneRuns.{IsOnTheWay, IsItsEnd, instructions_left}
 use Rattle.qm_proto.proofs.Sums.{sum_below-lt}
 
 module _ (p : Programs) where
-  -- ---- one rank more
-  lowest_push : (rs : List ℕ) (r : ℕ) (s : IdealState) → IsLowestFrom p s rs → IsLowestIdeal p (fold (ideal_next p) s rs).tables r
-      → IsLowestFrom p s (rs ++ r ∷ [])
-  lowest_push [] r s run low = (low, tt)
-  lowest_push (k ∷ rs) r s run low = (run.0, lowest_push rs r (ideal_next p s k) run.1 low)
-
-  state_push : (rs : List ℕ) (r : ℕ) (s : IdealState) → fold (ideal_next p) s (rs ++ r ∷ []) ≡ ideal_next p (fold (ideal_next p) s rs) r
-  state_push [] r s = refl
-  state_push (k ∷ rs) r s = state_push rs r (ideal_next p s k)
-
-  pub way_next : (s u : IdealState) (r : ℕ) → IsOnTheWay p s → IsLowestIdeal p s.tables r → u ≡ ideal_next p s r → IsOnTheWay p u
-  way_next s u r way low is =
-      record {
-        ranks = way.ranks ++ r ∷ [];
-        lowest = lowest_push way.ranks r (ideal_at_start p) way.lowest (subst (λ (z : IdealState). IsLowestIdeal p z.tables r) (sym way.state) low);
-        state = state_push way.ranks r (ideal_at_start p) ∙ ap (λ z. ideal_next p z r) way.state ∙ sym is;
-      }
-
   -- ---- the end
   one_from_lowest : (rs : List ℕ) (s : IdealState) → IsLowestFrom p s rs
       → ((r : ℕ) → r < length p.ranks → ideal_enabled p (fold (ideal_next p) s rs).tables r ≡ false) → IsOneFrom p s rs
@@ -111,16 +94,19 @@ module _ (p : Programs) where
       subst (λ (u : IdealState). CountsFew u.tables) way.state
       (few_after way.ranks (ideal_at_start p) (ideal_from_lowest way.ranks (ideal_at_start p) way.lowest) (λ r. omega arith))
 
-  -- ---- the number of instructions left falls
-  pub left_falls : (s u : IdealState) (r : ℕ) → IsLowestIdeal p s.tables r → u ≡ ideal_next p s r → instructions_left p u.tables < instructions_left p s.tables
-  left_falls s u r low is =
-      let n = next_where_able p s.tables r low.able in
+  -- ---- the number of instructions left falls, where rank r is one instruction further and no other rank is elsewhere
+  pub one_less : (t u : IdealTables) (r : ℕ) → r < length p.ranks → (t.parts r).at < length (rank_of p r).instructions
+      → (u.parts r).at ≡ (t.parts r).at + 1 → ((k : ℕ) → k ≢ r → (u.parts k).at ≡ (t.parts k).at) → instructions_left p u < instructions_left p t
+  one_less t u r known within more same =
       let left = λ (t : IdealTables) (k : ℕ). length (rank_of p k).instructions - (t.parts k).at in
+      let here : left u r < left t r = omega (arith, within, more) in
+      sum_below-lt (left u) (left t) (length p.ranks) r
+      (λ k below. by_number (λ k. left u k ≤ left t k) r (omega (arith, here)) (λ k other. let e = same k other in omega (arith, e)) k)
+      known here
+
+  pub left_falls : (s : IdealState) (r : ℕ) → IsLowestIdeal p s.tables r → instructions_left p (ideal_next p s r).tables < instructions_left p s.tables
+  left_falls s r low =
+      let n = next_where_able p s.tables r low.able in
       let within : (s.tables.parts r).at < length (rank_of p r).instructions = slice_get_within (rank_of p r).instructions (s.tables.parts r).at n.0 n.1.read in
-      let more = at_more s r n.0 n.1 in
-      let v = ideal_next p s r in
-      let here : left v.tables r < left s.tables r = omega (arith, within, more) in
-      subst (λ (z : IdealState). instructions_left p z.tables < instructions_left p s.tables) (sym is)
-      (sum_below-lt (left v.tables) (left s.tables) (length p.ranks) r
-      (λ k below. by_number (λ k. left v.tables k ≤ left s.tables k) r (omega (arith, here)) (λ k other. let e = ap (λ (x : IdealPart). x.at) (part_else s r n.0 n.1 k other) in omega (arith, e)) k)
-      low.known here)
+      one_less s.tables (ideal_next p s r).tables r low.known within (at_more s r n.0 n.1)
+      (λ k other. ap (λ (x : IdealPart). x.at) (part_else s r n.0 n.1 k other))

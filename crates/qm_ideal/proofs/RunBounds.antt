@@ -1,5 +1,5 @@
 -- A run has few steps, and its circuit few letters
-use Rattle.std.proofs.Common.{◌≡◌, ℕ, zero, suc, ◌+◌, ◌-◌, ◌*◌, ◌<◌, ◌≤◌, suc-mul, Bool, true, false, List, [], ◌∷◌, ◌++◌, length, fold, refl, ap, arith}
+use Rattle.std.proofs.Common.{◌≡◌, ℕ, zero, suc, ◌+◌, ◌-◌, ◌*◌, ◌<◌, ◌≤◌, suc-mul, Bool, true, false, List, [], ◌∷◌, ◌++◌, length, fold, ap, arith}
 use Rattle.std.proofs.lemmas.List.{length-append}
 use Rattle.std.proofs.lemmas.List.Sums.{get_or-le-sum_by}
 use Rattle.qm_denot.specs.declared.Letter.{Letter}
@@ -11,7 +11,8 @@ use Rattle.qm_proto.specs.Model.Ideal.{IdealState, ideal_next, ideal_at_start, i
 use Rattle.qm_confluence.proofs.Confluence.ByView.{View, letters_by, view, bit_in}
 use Rattle.qm_confluence.proofs.Confluence.Helpers.{next_where_able}
 use Rattle.qm_confluence.proofs.Confluence.Diamond.{next_is}
-use Rattle.qm_ideal.specs.OneRuns.{IsItsEnd, instructions_left}
+use Rattle.qm_confluence.specs.Drawn.{IsLowestFrom}
+use Rattle.qm_ideal.specs.OneRuns.{IsOnTheWay, IsItsEnd, instructions_left}
 use Rattle.qm_ideal.proofs.OneRunLemmas.{left_falls}
 use Rattle.qm_ideal.specs.OneCircuits.{most_letters}
 use Rattle.qm_proto.specs.Model.Totals.{sum_below}
@@ -41,7 +42,7 @@ sum_few f (suc n) m each =
 
 module _ (p : Programs) where
   -- each step does an instruction, and at most two letters
-  run_few : (rs : List ℕ) (s : IdealState) → IsOneFrom p s rs
+  run_few : (rs : List ℕ) (s : IdealState) → IsLowestFrom p s rs
       → length (fold (ideal_next p) s rs).circuit ≤ length s.circuit + 2 * instructions_left p s.tables
   run_few [] s one = omega arith
   run_few (r ∷ rs) s one =
@@ -51,7 +52,7 @@ module _ (p : Programs) where
       let here : length u.circuit ≡ length (s.circuit ++ ls) = ap (λ (z : IdealState). length z.circuit) (next_is p s r n.0 n.1.read) in
       let e = length-append s.circuit ls in
       let few = letters_few r n.0 (view p s.tables r n.0) in
-      let less = left_falls p s u r one.0 refl in
+      let less = left_falls p s r one.0 in
       let rest = run_few rs u one.1 in
       omega (arith, here, e, few, less, rest)
 
@@ -62,10 +63,18 @@ module _ (p : Programs) where
       let all = sum_few (λ r. length (rank_of p r).instructions - 0) (length p.ranks) 100000 each in
       omega (arith, all, ranges.most_ranks)
 
+  pub way_bound : IsInRange p → (s : IdealState) → IsOnTheWay p s → length s.circuit ≤ most_letters
+  way_bound ranges s way =
+      let few = run_few way.ranks (ideal_at_start p) way.lowest in
+      let left = left_few ranges in
+      let same : length (fold (ideal_next p) (ideal_at_start p) way.ranks).circuit ≡ length s.circuit = ap (λ (u : IdealState). length u.circuit) way.state in
+      omega (arith, few, left, same)
+
+  lowest_from : (rs : List ℕ) (s : IdealState) → IsOneFrom p s rs → IsLowestFrom p s rs
+  lowest_from [] s one = tt
+  lowest_from (r ∷ rs) s one = (one.0, lowest_from rs (ideal_next p s r) one.1)
+
   pub letters_bound : IsInRange p → (s : IdealState) → IsItsEnd p s → length s.circuit ≤ most_letters
   unfolding ideal_replay IsOneRun
   letters_bound ranges s end =
-      let few = run_few end.ranks (ideal_at_start p) end.run in
-      let left = left_few ranges in
-      let same : length (fold (ideal_next p) (ideal_at_start p) end.ranks).circuit ≡ length s.circuit = ap (λ (u : IdealState). length u.circuit) end.state in
-      omega (arith, few, left, same)
+      way_bound ranges s (record { ranks = end.ranks; lowest = lowest_from end.ranks (ideal_at_start p) end.run; state = end.state })

@@ -1,18 +1,17 @@
--- The tables that the code keeps, where a lane or a rank's tape changes
-use Rattle.std.proofs.Common.{◌≡◌, ◌≢◌, ◌∙◌, ℕ, zero, suc, ◌+◌, ◌≤◌, Bool, List, [], ◌∷◌, ◌++◌, length, map, drop, slice_get, slice_index_or, replicate, Option, None, refl, sym, ap, arith}
+-- The tables that the code keeps, where a lane changes
+use Rattle.std.proofs.Common.{◌≡◌, ◌≢◌, ◌∙◌, ℕ, zero, suc, List, [], ◌∷◌, ◌++◌, map, drop, slice_get, slice_index_or, replicate, Option, None, refl, sym, ap}
 use Rattle.std.proofs.Math.Path.{fun_ext}
-use Rattle.std.proofs.Math.Seq.{drop-nil}
-use Rattle.std.proofs.Math.ListN.{drop_of_length-le}
 use Rattle.std.proofs.lemmas.List.{map-append, drop-map}
 use Rattle.qm_instr.specs.declared.Lane.{Lane}
 use Rattle.qm_proto.specs.Model.State.{with_lane}
 use Rattle.qm_proto.specs.Model.Ideal as model
-use Rattle.qm_proto.specs.Model.Ideal.{IdealTables, ideal_part_at_start, ideal_at_start}
+use Rattle.qm_proto.specs.Model.Ideal.{IdealTables, ideal_at_start}
+use Rattle.qm_confluence.specs.Told.{untaped}
 use Rattle.qm_proto.proofs.IdealRuns.{tables_same}
 use Rattle.qm_denot.specs.declared.Wire.{Wire}
-use Rattle.qm_instr.specs.Programs.{Programs, RankProgram, rank_of}
+use Rattle.qm_instr.specs.Programs.{Programs}
 use Rattle.qm_ideal.specs.declared.tables.IdealRank.{IdealRank}
-use Rattle.qm_ideal.specs.Views.{rank_at_start, part_in, slot_in, parts_at, slots_at}
+use Rattle.qm_ideal.specs.Views.{rank_at_start, part_of, part_in, slot_in, parts_at, slots_at}
 use Rattle.qm_proto.proofs.Changes.{by_lane}
 use Rattle.qm_ideal.specs.declared.steps.Load.{Load}
 use Rattle.qm_ideal.specs.Meanings.{load_meant, load_in}
@@ -46,23 +45,11 @@ module _ (f g : Lane → List Load) (a : Lane) where
   pub take_meant : g ≡ with_lane f a (drop 1 (f a)) → meant g ≡ with_lane (meant f) a (drop 1 (meant f a))
   take_meant same = lanes_meant (drop 1 (f a)) same ∙ ap (with_lane (meant f) a) (sym (drop-map load_meant 1 (f a)))
 
--- ---- one outcome more is used
-pub used_more : (n : ℕ) (xs : List Bool) → drop (n + 1) xs ≡ drop 1 (drop n xs)
-used_more n [] = drop-nil (n + 1) ∙ sym (ap (drop 1) (drop-nil n))
-used_more zero (x ∷ xs) = refl
-used_more (suc n) (x ∷ xs) =
-    let e : suc n + 1 ≡ suc (n + 1) = omega arith in ap (λ k. drop k (x ∷ xs)) e ∙ used_more n xs
-
--- and none, where none is left
-pub used_up : (n : ℕ) (xs : List Bool) → length xs ≤ n → drop n xs ≡ drop 1 (drop n xs)
-used_up n xs past = drop_of_length-le xs past ∙ sym (ap (drop 1) (drop_of_length-le xs past))
-
 -- ---- at the start
-module _ (x : RankProgram) where
-  start_part : (n r : ℕ) → part_in x (slice_get (replicate n rank_at_start) r) ≡ ideal_part_at_start x
-  start_part zero r = refl
-  start_part (suc n) zero = refl
-  start_part (suc n) (suc r) = start_part n r
+start_part : (n r : ℕ) → part_in (slice_get (replicate n rank_at_start) r) ≡ part_of rank_at_start
+start_part zero r = refl
+start_part (suc n) zero = refl
+start_part (suc n) (suc r) = start_part n r
 
 start_slot : (n r q : ℕ) → slot_in (slice_get (replicate n rank_at_start) r) q ≡ None
 start_slot zero r q = refl
@@ -75,9 +62,9 @@ start_slot (suc n) zero q = none 16 q
 start_slot (suc n) (suc r) q = start_slot n r q
 
 pub start_tables : (p : Programs) (ranks : List IdealRank) (n : ℕ) (ls : Lane → List Load) → ranks ≡ replicate n rank_at_start → ls ≡ (λ a. [])
-    → (let t : IdealTables = record { parts = parts_at p ranks; slots = slots_at ranks; lanes = λ a. map load_meant (ls a) } in t ≡ (ideal_at_start p).tables)
+    → (let t : IdealTables = record { parts = parts_at ranks; slots = slots_at ranks; lanes = λ a. map load_meant (ls a) } in t ≡ untaped (ideal_at_start p).tables)
 start_tables p ranks n ls same none =
-    let t : List IdealRank → (Lane → List Load) → IdealTables = λ k l. record { parts = parts_at p k; slots = slots_at k; lanes = λ a. map load_meant (l a) } in
+    let t : List IdealRank → (Lane → List Load) → IdealTables = λ k l. record { parts = parts_at k; slots = slots_at k; lanes = λ a. map load_meant (l a) } in
     ap (λ k. t k ls) same ∙ ap (t (replicate n rank_at_start)) none
-    ∙ tables_same (t (replicate n rank_at_start) (λ a. [])) (ideal_at_start p).tables
-    (λ r. start_part (rank_of p r) n r) (λ r q. start_slot n r q) (λ a. refl)
+    ∙ tables_same (t (replicate n rank_at_start) (λ a. [])) (untaped (ideal_at_start p).tables)
+    (λ r. start_part n r) (λ r q. start_slot n r q) (λ a. refl)

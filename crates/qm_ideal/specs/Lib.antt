@@ -4,6 +4,8 @@ pub mod Views
 pub mod OneRuns
 pub mod Widths
 pub mod OneCircuits
+pub mod Drawings
+pub mod UnderWay
 pub mod Room
 pub mod Meetings
 pub mod MeetingViews

@@ -34,7 +34,6 @@ act_meant act.Counts = model.Counts
 act_meant (act.SlotSet q w) = model.SlotSet q w
 act_meant (act.Puts a x) = model.Puts a (load_meant x)
 act_meant (act.Takes a) = model.Takes a
-act_meant act.OwnUsed = model.OwnUsed
 act_meant (act.BitSet b v) = model.BitSet b v
 
 -- the act's slot or bit is one that there may be

@@ -56,6 +56,10 @@ pub record IsOneCircuit (p : Programs) (m : OneView) : Type 0 where
   pub slots : (r q : ℕ) → slot_of m r q ≡ (ideal_replay p ranks).tables.slots r q
   pub wide : m.width ≡ model.width m.letters (wires_in (slot_of m) (length m.ranks))
 
+-- it does not end early
+abbrev pub HasOneCircuit : Programs → Type 0
+HasOneCircuit p = (m : OneView) × IsOneCircuit p m
+
 -- the sum of 2^k over those of the n ranks r, r+1, .. that have instructions left, where the first of them is number 0
 abbrev pub left_from : Programs → IdealTables → ℕ → ℕ → ℕ
 left_from p t r zero = 0

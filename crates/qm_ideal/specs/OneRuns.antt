@@ -1,13 +1,9 @@
 -- The run of the lowest enabled ranks, as far as it has come
-use Rattle.std.specs.Prelude.{◌≡◌, ℕ, ◌-◌, List, [], ◌∷◌, fold, length}
+use Rattle.std.specs.Prelude.{◌≡◌, ℕ, ◌-◌, List, fold, length}
 use Rattle.qm_instr.specs.Programs.{Programs, rank_of}
-use Rattle.qm_proto.specs.Model.Ideal.{IdealTables, IdealState, ideal_next, ideal_at_start, ideal_replay, IsLowestIdeal, IsOneRun}
+use Rattle.qm_proto.specs.Model.Ideal.{IdealTables, IdealState, ideal_next, ideal_at_start, ideal_replay, IsOneRun}
+use Rattle.qm_confluence.specs.Drawn.{IsLowestFrom}
 use Rattle.qm_proto.specs.Model.Totals.{sum_below}
-
--- each rank is the lowest that is enabled after those before it
-abbrev pub IsLowestFrom : Programs → IdealState → List ℕ → Type 0
-IsLowestFrom p s [] = Unit {0}
-IsLowestFrom p s (r ∷ rs) = IsLowestIdeal p s.tables r × IsLowestFrom p (ideal_next p s r) rs
 
 -- the state is one that the run comes through
 pub record IsOnTheWay (p : Programs) (s : IdealState) : Type 0 where

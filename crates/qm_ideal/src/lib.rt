@@ -2,8 +2,11 @@
 #![tactic(auto)]
 
 ghost use Rattle.std.specs.Prelude.{◌≡◌};
+ghost use Rattle.qm_ideal.specs.declared.DrawnError.TheVariants as drawn;
 ghost use Rattle.qm_ideal.specs.declared.MonoError.TheVariants.{Memory};
 
+mod draw;
+mod feed;
 mod lanes;
 pub mod laws;
 mod meeting;
@@ -14,8 +17,9 @@ mod steps;
 mod tables;
 mod width;
 
+pub use draw::{Draw, Stop};
 pub use meeting::rendezvous;
-pub use one_circuit::{OneCircuit, mono};
+pub use one_circuit::{OneCircuit, mono, mono_with};
 use std::alloc::AllocError;
 use thiserror::Error;
 
@@ -28,6 +32,25 @@ pub enum MonoError {
     /// The allocator has no memory left.
     #[error("out of memory")]
     Memory,
+}
+
+/// Why programs whose outcomes are drawn have no one circuit.
+#[derive(Clone, Copy, PartialEq, Eq, Debug, Error)]
+pub enum DrawnError {
+    /// A call on the draw answered this stop; the number is that of the letters taken.
+    #[error("letter {at} isn't taken, or its outcome isn't drawn: {why:?}")]
+    Stopped { at: u32, why: Stop },
+    /// The allocator has no memory left.
+    #[error("out of memory")]
+    Memory,
+}
+
+impl From<AllocError> for DrawnError {
+    ghost from_gives = { λ _ e. e ≡ drawn.Memory };
+
+    fn from(_: AllocError) -> DrawnError {
+        DrawnError::Memory
+    }
 }
 
 impl From<AllocError> for MonoError {

@@ -1,13 +1,18 @@
 //! The one circuit of programs.
 ghost use Rattle.std.specs.Prelude.{◌≡◌, ◌<◌, ◌≤◌, ◌++◌, length, IfOk, IfErr, OnOk};
 ghost use Rattle.qm_instr.specs.Bits.{number_of_bits};
-ghost use Rattle.qm_ideal.specs.OneCircuits.{wires_below, wires_in, left_from, bits_of, slot_of, most_letters, IsOneCircuit, Explains};
-ghost use Rattle.qm_ideal.specs.Views.{tables_of, slots_at, view_of_run};
+ghost use Rattle.qm_instr.specs.Programs.{IsInRange};
+ghost use Rattle.qm_check.specs.Checks.{IsReady};
+ghost use Rattle.qm_ideal.specs.OneCircuits.{wires_below, wires_in, left_from, bits_of, slot_of, most_letters, IsOneCircuit, HasOneCircuit, Explains};
+ghost use Rattle.qm_ideal.specs.Drawings.{nothing_drawn, IsDrawnCircuit, ExplainsDrawn};
+ghost use Rattle.qm_ideal.specs.Views.{tables_of, slots_at, view_of_run, IsTapedEnd};
 
-use crate::MonoError;
+use crate::draw::Draw;
+use crate::feed::Tapes;
 use crate::run::Run;
 use crate::tables::Tables;
 use crate::width::width;
+use crate::{DrawnError, MonoError};
 use qm_check::Ready;
 use qm_denot::{Letter, Wire};
 use qm_instr::Input;
@@ -75,7 +80,7 @@ fn ranks_left(input: &Input, ranks: u16, tables: &Tables) -> u16
     requires all { ranks ≡ length input.now.ranks }
     requires same { length tables.now.ranks.items ≡ length input.now.ranks }
     requires few { ranks ≤ MOST_RANKS }
-    ensures { result ≡ left_from input.now (tables_of input.now tables.now) 0
+    ensures { result ≡ left_from input.now (tables_of tables.now) 0
         (length input.now.ranks) }
 {
     let mut left = 0;
@@ -110,11 +115,10 @@ fn push_wires(wires: &mut Vec<Wire>, tables: &Tables, rank: u16) -> Result<(), A
 }
 
 /// The circuit, with its width, of a run that leaves no instruction.
-fn measured(alloc: Global, ranks: u16, run: Run) -> Result<OneCircuit, MonoError>
+fn measured(alloc: Global, ranks: u16, run: Run) -> Result<OneCircuit, AllocError>
     requires few { ranks ≤ MOST_RANKS }
     requires short { length run.letters.items ≤ most_letters }
-    ensures ok { IfOk result (λ m. m ≡ view_of_run ranks run) }
-    ensures err { IfErr result (λ e. e ≡ MonoError.Memory) }
+    ensures { IfOk result (λ m. m ≡ view_of_run ranks run) }
 {
     let ends = wires_in(alloc, ranks, &run.tables)?;
     let width = width(alloc, run.letters.as_slice(), ends.as_slice())?;
@@ -123,6 +127,21 @@ fn measured(alloc: Global, ranks: u16, run: Run) -> Result<OneCircuit, MonoError
         tables: run.tables,
         width: width as u32,
     })
+}
+
+/// The run whose outcomes are those of the programs' own tapes. `AllocError` comes from the allocator alone.
+fn run_by_tapes(alloc: Global, input: &Input) -> Result<Run, AllocError>
+    requires ready { IsReady input.now }
+    requires in_range { IsInRange input.now }
+    ensures end { IfOk result (IsTapedEnd input.now) }
+    ensures ranks { IfOk result (λ x. length x.tables.ranks.items ≡ length input.now.ranks) }
+{
+    let mut tapes = Tapes::start(input);
+    match Run::of(alloc, input, &mut tapes) {
+        Ok(run) => Ok(run),
+        Err(DrawnError::Memory) => Err(AllocError),
+        Err(DrawnError::Stopped { .. }) => unreachable!(),
+    }
 }
 
 /// The one circuit of programs: the circuit of the ideal run that always steps the lowest enabled rank.
@@ -134,10 +153,31 @@ pub fn mono(alloc: Global, ready: &Ready) -> Result<OneCircuit, MonoError>
 {
     let input = ready.input();
     let count = input.ranks();
-    let run = Run::of(alloc, input)?;
+    let run = run_by_tapes(alloc, input)?;
     let ranks = ranks_left(input, count, &run.tables);
     if ranks != 0 {
         return Err(MonoError::Waits { ranks });
     }
-    measured(alloc, count, run)
+    Ok(measured(alloc, count, run)?)
+}
+
+/// The one circuit of programs whose own outcomes are drawn along the ideal run that always steps the lowest enabled rank.
+///
+/// The outcomes stand in the place of the programs' own tapes, whose bits aren't used. The run must not end early, which [`mono`] tells
+/// and no outcome changes. `Stopped` comes exactly where a call on the draw answered a stop, for the next letter of the run or for the
+/// measurement whose Keep it would be. `Memory` comes from the allocator alone.
+pub fn mono_with<D: Draw>(
+    alloc: Global,
+    ready: &Ready,
+    draw: &mut D,
+) -> Result<OneCircuit, DrawnError>
+    requires whole { HasOneCircuit ready.now }
+    requires new { D.draws draw.old nothing_drawn }
+    ensures ok { IfOk result (IsDrawnCircuit ready.now (D.draws draw.new)) }
+    ensures err { IfErr result (ExplainsDrawn ready.now (D.draws draw.new)) }
+{
+    let input = ready.input();
+    let count = input.ranks();
+    let run = Run::of(alloc, input, draw)?;
+    Ok(measured(alloc, count, run)?)
 }

@@ -1,10 +1,11 @@
 //! The table of the steps: what a step of each instruction waits for, its letters, and its acts.
-ghost use Rattle.std.specs.Prelude.{◌≡◌, ◌<◌, length, map, Some, None};
+ghost use Rattle.std.specs.Prelude.{◌≡◌, ◌<◌, Bool, length, map, Some, None};
 ghost use Rattle.qm_instr.specs.Lanes.{lane_sent, lane_received};
 ghost use Rattle.qm_instr.specs.Programs.{Programs};
 ghost use Rattle.qm_proto.specs.Model.Acts.{list_of};
 ghost use Rattle.qm_proto.specs.Model.Ideal.{IdealTables, ideal_row_of, ideal_wire_in, load_at, wire_carried};
 ghost use Rattle.qm_proto.specs.Model.Rows.{gate_letter};
+ghost use Rattle.qm_confluence.specs.Told.{told, without_own};
 ghost use Rattle.qm_ideal.specs.Meanings.{rule_meant, act_meant};
 ghost use Rattle.qm_ideal.specs.Views.{tables_of};
 
@@ -48,13 +49,11 @@ pub(crate) enum StepAct {
     Puts { lane: Lane, load: Load },
     /// The front of a lane is taken.
     Takes { lane: Lane },
-    /// An outcome of the own tape is used.
-    OwnUsed,
     /// Bit `b` becomes `v`.
     BitSet { b: u8, v: bool },
 }
 
-/// The letters and the acts of a step, each in their order.
+/// The letters and the acts of a step, each in their order; the use of an outcome is none of them.
 #[derive(Clone, Copy)]
 pub(crate) struct StepWork {
     pub(crate) letters: Few<Letter>,
@@ -94,8 +93,8 @@ pub(crate) fn rule_of(rank: u16, instr: Instr) -> StepRule
 }
 
 /// The letter of a gate on the slots of a rank.
-fn letter_of(input: &Input, tables: &Tables, rank: u16, gate: Gate) -> Letter
-    ensures { result ≡ gate_letter (ideal_wire_in (tables_of input.now tables.now) rank) gate }
+fn letter_of(tables: &Tables, rank: u16, gate: Gate) -> Letter
+    ensures { result ≡ gate_letter (ideal_wire_in (tables_of tables.now) rank) gate }
 {
     gate_letter(gate, |q| tables.wire_in(rank, q))
 }
@@ -135,31 +134,30 @@ fn put(lane: Lane, load: Load) -> StepAct
 }
 
 /// A step that takes the front wire of a lane into a slot.
-fn taking(input: &Input, tables: &Tables, lane: Lane, q: u8) -> StepWork
-    ensures { let w = wire_carried (load_at (tables_of input.now tables.now) lane) in
+fn taking(tables: &Tables, lane: Lane, q: u8) -> StepWork
+    ensures { let w = wire_carried (load_at (tables_of tables.now) lane) in
         result ≡ record {
           letters = Few.Empty;
           acts = Few.Two (StepAct.Takes lane) (StepAct.SlotSet q (Some w));
         } }
 {
-    let wire = Some(tables.front_wire(input, lane));
+    let wire = Some(tables.front_wire(lane));
     silent(Few::Two(StepAct::Takes { lane }, StepAct::SlotSet { q, wire }))
 }
 
-/// The step of an instruction that is done within its rank.
-fn local_step(input: &Input, tables: &Tables, rank: u16, instr: Instr) -> StepWork
-    requires same { length tables.now.ranks.items ≡ length input.now.ranks }
-    requires known { rank < length input.now.ranks }
+/// The step of an instruction that is done within its rank, where `m` is the outcome of a measurement.
+fn local_step(tables: &Tables, rank: u16, instr: Instr, m: bool) -> StepWork
+    requires known { rank < length tables.now.ranks.items }
     requires unsent { lane_sent rank instr ≡ None }
     requires unreceived { lane_received rank instr ≡ None }
-    ensures letters { list_of result.letters
-        ≡ (ideal_row_of input.now (tables_of input.now tables.now) rank instr).letters }
-    ensures acts { map act_meant (list_of result.acts)
-        ≡ (ideal_row_of input.now (tables_of input.now tables.now) rank instr).acts }
+    ensures letters { (p : Programs) → list_of result.letters
+        ≡ (ideal_row_of p (told (tables_of tables.now) m) rank instr).letters }
+    ensures acts { (p : Programs) → map act_meant (list_of result.acts)
+        ≡ without_own (ideal_row_of p (told (tables_of tables.now) m) rank instr).acts }
 {
     match instr {
         Instr::Alloc { q } => {
-            let wire = Some(tables.made(input, rank));
+            let wire = Some(tables.made(rank));
             silent(Few::Two(StepAct::Counts, StepAct::SlotSet { q, wire }))
         }
         Instr::Free { q } => lettered(
@@ -169,24 +167,21 @@ fn local_step(input: &Input, tables: &Tables, rank: u16, instr: Instr) -> StepWo
             },
             Few::One(emptied(q)),
         ),
-        Instr::Do { g } => lettered(letter_of(input, tables, rank, g), Few::Empty),
-        Instr::Measure { q, b } => {
-            let m = tables.own_next(input, rank);
-            lettered(
-                Letter::Keep {
-                    w: tables.wire_in(rank, q),
-                    m,
-                },
-                Few::Two(StepAct::OwnUsed, StepAct::BitSet { b, v: m }),
-            )
-        }
+        Instr::Do { g } => lettered(letter_of(tables, rank, g), Few::Empty),
+        Instr::Measure { q, b } => lettered(
+            Letter::Keep {
+                w: tables.wire_in(rank, q),
+                m,
+            },
+            Few::One(StepAct::BitSet { b, v: m }),
+        ),
         Instr::Set { b, v } => silent(Few::One(StepAct::BitSet { b, v })),
         Instr::Xor { b, c } => {
-            let v = tables.bit(input, rank, b) ^ tables.bit(input, rank, c);
+            let v = tables.bit(rank, b) ^ tables.bit(rank, c);
             silent(Few::One(StepAct::BitSet { b, v }))
         }
-        Instr::When { b, g } if tables.bit(input, rank, b) => {
-            lettered(letter_of(input, tables, rank, g), Few::Empty)
+        Instr::When { b, g } if tables.bit(rank, b) => {
+            lettered(letter_of(tables, rank, g), Few::Empty)
         }
         _ => silent(Few::Empty),
     }
@@ -197,19 +192,19 @@ fn send_step(input: &Input, tables: &Tables, rank: u16, instr: Instr, lane: Lane
     requires same { length tables.now.ranks.items ≡ length input.now.ranks }
     requires known { rank < length input.now.ranks }
     requires sent { lane_sent rank instr ≡ Some lane }
-    ensures letters { list_of result.letters
-        ≡ (ideal_row_of input.now (tables_of input.now tables.now) rank instr).letters }
-    ensures acts { map act_meant (list_of result.acts)
-        ≡ (ideal_row_of input.now (tables_of input.now tables.now) rank instr).acts }
+    ensures letters { (m : Bool) → list_of result.letters
+        ≡ (ideal_row_of input.now (told (tables_of tables.now) m) rank instr).letters }
+    ensures acts { (m : Bool) → map act_meant (list_of result.acts)
+        ≡ without_own (ideal_row_of input.now (told (tables_of tables.now) m) rank instr).acts }
 {
     match instr {
         Instr::SendBit { b, .. } => {
-            let bit = tables.bit(input, rank, b);
+            let bit = tables.bit(rank, b);
             silent(Few::One(put(lane, Load::Told { bit })))
         }
         Instr::CopyTo { q, .. } => {
             let c = tables.wire_in(rank, q);
-            let t = tables.made(input, rank);
+            let t = tables.made(rank);
             let puts = put(lane, Load::Carried { wire: t });
             lettered(Letter::Cx { c, t }, Few::Two(StepAct::Counts, puts))
         }
@@ -223,7 +218,7 @@ fn send_step(input: &Input, tables: &Tables, rank: u16, instr: Instr, lane: Lane
         }
         Instr::MoveTo { q, .. } => {
             let a = tables.wire_in(rank, q);
-            let b = tables.made(input, rank);
+            let b = tables.made(rank);
             let puts = put(lane, Load::Carried { wire: b });
             lettered(
                 Letter::Rename { a, b },
@@ -243,17 +238,17 @@ fn receive_step(input: &Input, tables: &Tables, rank: u16, instr: Instr, lane: L
     requires same { length tables.now.ranks.items ≡ length input.now.ranks }
     requires known { rank < length input.now.ranks }
     requires received { lane_received rank instr ≡ Some lane }
-    ensures letters { list_of result.letters
-        ≡ (ideal_row_of input.now (tables_of input.now tables.now) rank instr).letters }
-    ensures acts { map act_meant (list_of result.acts)
-        ≡ (ideal_row_of input.now (tables_of input.now tables.now) rank instr).acts }
+    ensures letters { (m : Bool) → list_of result.letters
+        ≡ (ideal_row_of input.now (told (tables_of tables.now) m) rank instr).letters }
+    ensures acts { (m : Bool) → map act_meant (list_of result.acts)
+        ≡ without_own (ideal_row_of input.now (told (tables_of tables.now) m) rank instr).acts }
 {
     match instr {
         Instr::RecvBit { b, .. } => {
-            let v = tables.front_bit(input, lane);
+            let v = tables.front_bit(lane);
             silent(Few::Two(StepAct::Takes { lane }, StepAct::BitSet { b, v }))
         }
-        Instr::CopyFrom { q, .. } | Instr::MoveFrom { q, .. } => taking(input, tables, lane, q),
+        Instr::CopyFrom { q, .. } | Instr::MoveFrom { q, .. } => taking(tables, lane, q),
         Instr::UndoFrom { .. } => silent(Few::One(StepAct::Takes { lane })),
         Instr::ReachFrom { t, from, tag } => {
             let c = tables.offered(input, from);
@@ -265,18 +260,18 @@ fn receive_step(input: &Input, tables: &Tables, rank: u16, instr: Instr, lane: L
     }
 }
 
-/// A rank's step for an instruction.
-pub(crate) fn step_of(input: &Input, tables: &Tables, rank: u16, instr: Instr) -> StepWork
+/// A rank's step for an instruction, where `m` is the outcome of a measurement.
+pub(crate) fn step_of(input: &Input, tables: &Tables, rank: u16, instr: Instr, m: bool) -> StepWork
     requires same { length tables.now.ranks.items ≡ length input.now.ranks }
     requires known { rank < length input.now.ranks }
     ensures letters { list_of result.letters
-        ≡ (ideal_row_of input.now (tables_of input.now tables.now) rank instr).letters }
+        ≡ (ideal_row_of input.now (told (tables_of tables.now) m) rank instr).letters }
     ensures acts { map act_meant (list_of result.acts)
-        ≡ (ideal_row_of input.now (tables_of input.now tables.now) rank instr).acts }
+        ≡ without_own (ideal_row_of input.now (told (tables_of tables.now) m) rank instr).acts }
 {
     match (send_lane(rank, instr), receive_lane(rank, instr)) {
         (Some(lane), _) => send_step(input, tables, rank, instr, lane),
         (None, Some(lane)) => receive_step(input, tables, rank, instr, lane),
-        (None, None) => local_step(input, tables, rank, instr),
+        (None, None) => local_step(tables, rank, instr, m),
     }
 }

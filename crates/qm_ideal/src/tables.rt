@@ -1,9 +1,10 @@
 //! Where each rank stands, the wires in its slots, and what the lanes hold.
-ghost use Rattle.std.specs.Prelude.{◌≡◌, ◌<◌, ◌+◌, ◌^◌, ℕ, length, map, unwrap_or, slice_get, slice_index_or, nat_eq, false, None, drop, fold, IfOk, OnOk};
+ghost use Rattle.std.specs.Prelude.{◌≡◌, ◌<◌, ◌+◌, ◌^◌, ℕ, length, map, unwrap_or, slice_get, slice_index_or, nat_eq, false, None, fold, IfOk, OnOk};
 ghost use Rattle.qm_instr.specs.Bits.{number_of_bits};
 ghost use Rattle.qm_proto.specs.Model.State.{no_wire};
 ghost use Rattle.qm_proto.specs.Model.Acts.{list_of};
-ghost use Rattle.qm_proto.specs.Model.Ideal.{ideal_wire_in, ideal_wire_made, ideal_current, ideal_wire_offered, ideal_after_act, ideal_past_instr, Counts, SlotSet, Puts, Takes, OwnUsed, BitSet, load_at, wire_carried, bit_told, is_empty_lane, ideal_at_start};
+ghost use Rattle.qm_proto.specs.Model.Ideal.{ideal_wire_in, ideal_wire_made, ideal_current, ideal_wire_offered, ideal_after_act, ideal_past_instr, Counts, SlotSet, Puts, Takes, BitSet, load_at, wire_carried, bit_told, is_empty_lane, ideal_at_start};
+ghost use Rattle.qm_confluence.specs.Told.{untaped};
 ghost use Rattle.qm_ideal.specs.Meanings.{act_meant, load_meant, load_in, IsSmall, AllSmall};
 ghost use Rattle.qm_ideal.specs.Lanes.{lanes_of};
 ghost use Rattle.qm_ideal.specs.OneCircuits.{no_rank};
@@ -20,12 +21,11 @@ use std::alloc::{AllocError, Global};
 /// How many slots a rank may have.
 const SLOTS: usize = qm_limits::SLOTS as usize;
 
-/// A rank: the number of its next instruction, how many wires it has counted and outcomes it has used, its bits and its slots.
+/// A rank: the number of its next instruction, how many wires it has counted, its bits and its slots.
 #[derive(Drop)]
 pub(crate) struct IdealRank {
     at: u32,
     made: u32,
-    used: usize,
     bits: [bool; BITS],
     slots: [Option<Wire>; SLOTS],
 }
@@ -66,19 +66,11 @@ fn bit_told(front: Option<Load>) -> bool
     }
 }
 
-/// How many outcomes of a tape are used after one more, where one is left.
-#[tactic(auto, using(crate::proofs::TableLemmas::used_more, crate::proofs::TableLemmas::used_up))]
-fn used_after(own: &[bool], used: usize) -> usize
-    ensures { drop result own.now ≡ drop 1 (drop used own.now) }
-{
-    if used < own.len() { used + 1 } else { used }
-}
-
 impl Tables {
     /// The ranks before their first instruction, and empty lanes. `AllocError` comes from the allocator alone.
     pub(crate) fn start(alloc: Global, input: &Input) -> Result<Tables, AllocError>
-        ensures start { IfOk result (λ t. tables_of input.now t
-            ≡ (ideal_at_start input.now).tables) }
+        ensures start { IfOk result (λ t. tables_of t
+            ≡ untaped (ideal_at_start input.now).tables) }
         ensures ranks { IfOk result (λ t. length t.ranks.items ≡ length input.now.ranks) }
     {
         let mut ranks = Vec::with_capacity(alloc, usize::from(input.ranks()))?;
@@ -86,7 +78,6 @@ impl Tables {
             ranks.push_reserved(IdealRank {
                 at: 0,
                 made: 0,
-                used: 0,
                 bits: [false; BITS],
                 slots: [None; SLOTS],
             });
@@ -126,9 +117,9 @@ impl Tables {
     }
 
     /// A bit of a rank; false where there is none.
-    pub(crate) fn bit(&self, input: &Input, rank: u16, b: u8) -> bool
+    pub(crate) fn bit(&self, rank: u16, b: u8) -> bool
         requires { rank < length self.now.ranks.items }
-        ensures { result ≡ slice_index_or ((tables_of input.now self.now).parts rank).bits b false }
+        ensures { result ≡ slice_index_or ((tables_of self.now).parts rank).bits b false }
     {
         match self.ranks[usize::from(rank)].bits.get(usize::from(b)) {
             Some(bit) => *bit,
@@ -144,22 +135,10 @@ impl Tables {
         self.ranks[usize::from(rank)].number()
     }
 
-    /// The next outcome of a rank's own tape; false where none is left.
-    pub(crate) fn own_next(&self, input: &Input, rank: u16) -> bool
-        requires same { length self.now.ranks.items ≡ length input.now.ranks }
-        requires known { rank < length input.now.ranks }
-        ensures { result ≡ slice_index_or ((tables_of input.now self.now).parts rank).own 0 false }
-    {
-        match input.own(rank).get(self.ranks[usize::from(rank)].used) {
-            Some(outcome) => *outcome,
-            None => false,
-        }
-    }
-
     /// The wire that a rank's count names.
-    pub(crate) fn made(&self, input: &Input, rank: u16) -> Wire
+    pub(crate) fn made(&self, rank: u16) -> Wire
         requires { rank < length self.now.ranks.items }
-        ensures { result ≡ ideal_wire_made (tables_of input.now self.now) rank }
+        ensures { result ≡ ideal_wire_made (tables_of self.now) rank }
     {
         Wire {
             rank,
@@ -169,22 +148,22 @@ impl Tables {
     }
 
     /// Whether a lane is empty.
-    pub(crate) fn is_empty(&self, input: &Input, lane: Lane) -> bool
-        ensures { result ≡ is_empty_lane (tables_of input.now self.now) lane }
+    pub(crate) fn is_empty(&self, lane: Lane) -> bool
+        ensures { result ≡ is_empty_lane (tables_of self.now) lane }
     {
         self.lanes.is_empty(lane)
     }
 
     /// The wire at a lane's front.
-    pub(crate) fn front_wire(&self, input: &Input, lane: Lane) -> Wire
-        ensures { result ≡ wire_carried (load_at (tables_of input.now self.now) lane) }
+    pub(crate) fn front_wire(&self, lane: Lane) -> Wire
+        ensures { result ≡ wire_carried (load_at (tables_of self.now) lane) }
     {
         wire_carried(self.lanes.front(lane))
     }
 
     /// The bit at a lane's front.
-    pub(crate) fn front_bit(&self, input: &Input, lane: Lane) -> bool
-        ensures { result ≡ bit_told (load_at (tables_of input.now self.now) lane) }
+    pub(crate) fn front_bit(&self, lane: Lane) -> bool
+        ensures { result ≡ bit_told (load_at (tables_of self.now) lane) }
     {
         bit_told(self.lanes.front(lane))
     }
@@ -192,7 +171,7 @@ impl Tables {
     /// The instruction at which a rank stands; none where there is no such rank.
     pub(crate) fn current(&self, input: &Input, rank: u16) -> Option<Instr>
         requires { length self.now.ranks.items ≡ length input.now.ranks }
-        ensures { result ≡ ideal_current input.now (tables_of input.now self.now) rank }
+        ensures { result ≡ ideal_current input.now (tables_of self.now) rank }
     {
         match self.ranks.get(usize::from(rank)) {
             Some(place) => input.instr(rank, place.at),
@@ -203,7 +182,7 @@ impl Tables {
     /// The wire that a rank offers, which stands at an `undofrom` or a `reachto`.
     pub(crate) fn offered(&self, input: &Input, rank: u16) -> Wire
         requires { length self.now.ranks.items ≡ length input.now.ranks }
-        ensures { result ≡ ideal_wire_offered input.now (tables_of input.now self.now) rank }
+        ensures { result ≡ ideal_wire_offered input.now (tables_of self.now) rank }
     {
         match self.current(input, rank) {
             Some(Instr::UndoFrom { q, .. }) | Some(Instr::ReachTo { q, .. }) => self.wire_in(
@@ -214,11 +193,11 @@ impl Tables {
     }
 
     /// Counts one wire more.
-    fn count(&mut self, input: &Input, rank: u16)
+    fn count(&mut self, rank: u16)
         requires known { rank < length self.old.ranks.items }
-        requires few { ((tables_of input.now self.old).parts rank).made + 1 < 2 ^ 32 }
-        ensures did { tables_of input.now self.new
-            ≡ ideal_after_act rank (tables_of input.now self.old) Counts }
+        requires few { ((tables_of self.old).parts rank).made + 1 < 2 ^ 32 }
+        ensures did { tables_of self.new
+            ≡ ideal_after_act rank (tables_of self.old) Counts }
         ensures ranks { length self.new.ranks.items ≡ length self.old.ranks.items }
     {
         let place = &mut self.ranks[usize::from(rank)];
@@ -226,36 +205,23 @@ impl Tables {
     }
 
     /// Fills a slot with a wire, or empties it.
-    fn set_slot(&mut self, input: &Input, rank: u16, q: u8, wire: Option<Wire>)
+    fn set_slot(&mut self, rank: u16, q: u8, wire: Option<Wire>)
         requires known { rank < length self.old.ranks.items }
         requires slot { q < SLOTS }
-        ensures did { tables_of input.now self.new
-            ≡ ideal_after_act rank (tables_of input.now self.old) (SlotSet q wire) }
+        ensures did { tables_of self.new
+            ≡ ideal_after_act rank (tables_of self.old) (SlotSet q wire) }
         ensures ranks { length self.new.ranks.items ≡ length self.old.ranks.items }
     {
         let place = &mut self.ranks[usize::from(rank)];
         place.slots[usize::from(q)] = wire;
     }
 
-    /// Uses an outcome of the own tape, where one is left.
-    fn use_own(&mut self, input: &Input, rank: u16)
-        requires same { length self.old.ranks.items ≡ length input.now.ranks }
-        requires known { rank < length input.now.ranks }
-        ensures did { tables_of input.now self.new
-            ≡ ideal_after_act rank (tables_of input.now self.old) OwnUsed }
-        ensures ranks { length self.new.ranks.items ≡ length self.old.ranks.items }
-    {
-        let own = input.own(rank);
-        let place = &mut self.ranks[usize::from(rank)];
-        place.used = used_after(own, place.used);
-    }
-
     /// Sets a bit.
-    fn set_bit(&mut self, input: &Input, rank: u16, b: u8, v: bool)
+    fn set_bit(&mut self, rank: u16, b: u8, v: bool)
         requires known { rank < length self.old.ranks.items }
         requires bit { b < BITS }
-        ensures did { tables_of input.now self.new
-            ≡ ideal_after_act rank (tables_of input.now self.old) (BitSet b v) }
+        ensures did { tables_of self.new
+            ≡ ideal_after_act rank (tables_of self.old) (BitSet b v) }
         ensures ranks { length self.new.ranks.items ≡ length self.old.ranks.items }
     {
         let place = &mut self.ranks[usize::from(rank)];
@@ -263,16 +229,9 @@ impl Tables {
     }
 
     /// Puts a load at a lane's end. `AllocError` comes from the allocator alone.
-    fn put(
-        &mut self,
-        alloc: Global,
-        input: &Input,
-        rank: u16,
-        lane: Lane,
-        load: Load,
-    ) -> Result<(), AllocError>
-        ensures did { OnOk result (tables_of input.now self.new
-            ≡ ideal_after_act rank (tables_of input.now self.old) (Puts lane (load_meant load))) }
+    fn put(&mut self, alloc: Global, rank: u16, lane: Lane, load: Load) -> Result<(), AllocError>
+        ensures did { OnOk result (tables_of self.new
+            ≡ ideal_after_act rank (tables_of self.old) (Puts lane (load_meant load))) }
         ensures ranks { length self.new.ranks.items ≡ length self.old.ranks.items }
     {
         self.lanes.put(alloc, lane, load)?;
@@ -280,20 +239,20 @@ impl Tables {
     }
 
     /// Takes a lane's front away.
-    fn take(&mut self, input: &Input, rank: u16, lane: Lane)
-        ensures did { tables_of input.now self.new
-            ≡ ideal_after_act rank (tables_of input.now self.old) (Takes lane) }
+    fn take(&mut self, rank: u16, lane: Lane)
+        ensures did { tables_of self.new
+            ≡ ideal_after_act rank (tables_of self.old) (Takes lane) }
         ensures ranks { length self.new.ranks.items ≡ length self.old.ranks.items }
     {
         self.lanes.take(lane);
     }
 
     /// Goes on to the next instruction.
-    pub(crate) fn move_on(&mut self, input: &Input, rank: u16)
+    pub(crate) fn move_on(&mut self, rank: u16)
         requires known { rank < length self.old.ranks.items }
-        requires few { ((tables_of input.now self.old).parts rank).at + 1 < 2 ^ 32 }
-        ensures did { tables_of input.now self.new
-            ≡ ideal_past_instr (tables_of input.now self.old) rank }
+        requires few { ((tables_of self.old).parts rank).at + 1 < 2 ^ 32 }
+        ensures did { tables_of self.new
+            ≡ ideal_past_instr (tables_of self.old) rank }
         ensures ranks { length self.new.ranks.items ≡ length self.old.ranks.items }
     {
         let place = &mut self.ranks[usize::from(rank)];
@@ -301,28 +260,20 @@ impl Tables {
     }
 
     /// Does an act of a rank. `AllocError` comes from the allocator alone.
-    pub(crate) fn act(
-        &mut self,
-        alloc: Global,
-        input: &Input,
-        rank: u16,
-        act: StepAct,
-    ) -> Result<(), AllocError>
-        requires same { length self.old.ranks.items ≡ length input.now.ranks }
-        requires known { rank < length input.now.ranks }
-        requires few { ((tables_of input.now self.old).parts rank).made + 1 < 2 ^ 32 }
+    pub(crate) fn act(&mut self, alloc: Global, rank: u16, act: StepAct) -> Result<(), AllocError>
+        requires known { rank < length self.old.ranks.items }
+        requires few { ((tables_of self.old).parts rank).made + 1 < 2 ^ 32 }
         requires small { IsSmall (act_meant act) }
-        ensures did { OnOk result (tables_of input.now self.new
-            ≡ ideal_after_act rank (tables_of input.now self.old) (act_meant act)) }
+        ensures did { OnOk result (tables_of self.new
+            ≡ ideal_after_act rank (tables_of self.old) (act_meant act)) }
         ensures ranks { OnOk result (length self.new.ranks.items ≡ length self.old.ranks.items) }
     {
         match act {
-            StepAct::Counts => self.count(input, rank),
-            StepAct::SlotSet { q, wire } => self.set_slot(input, rank, q, wire),
-            StepAct::Puts { lane, load } => self.put(alloc, input, rank, lane, load)?,
-            StepAct::Takes { lane } => self.take(input, rank, lane),
-            StepAct::OwnUsed => self.use_own(input, rank),
-            StepAct::BitSet { b, v } => self.set_bit(input, rank, b, v),
+            StepAct::Counts => self.count(rank),
+            StepAct::SlotSet { q, wire } => self.set_slot(rank, q, wire),
+            StepAct::Puts { lane, load } => self.put(alloc, rank, lane, load)?,
+            StepAct::Takes { lane } => self.take(rank, lane),
+            StepAct::BitSet { b, v } => self.set_bit(rank, b, v),
         }
         Ok(())
     }
@@ -331,30 +282,28 @@ impl Tables {
     pub(crate) fn do_acts(
         &mut self,
         alloc: Global,
-        input: &Input,
         rank: u16,
         acts: Few<StepAct>,
     ) -> Result<(), AllocError>
-        requires same { length self.old.ranks.items ≡ length input.now.ranks }
-        requires known { rank < length input.now.ranks }
-        requires few { ((tables_of input.now self.old).parts rank).made + 3 < 2 ^ 32 }
+        requires known { rank < length self.old.ranks.items }
+        requires few { ((tables_of self.old).parts rank).made + 3 < 2 ^ 32 }
         requires small { AllSmall (map act_meant (list_of acts)) }
-        ensures did { OnOk result (tables_of input.now self.new
-            ≡ fold (ideal_after_act rank) (tables_of input.now self.old)
+        ensures did { OnOk result (tables_of self.new
+            ≡ fold (ideal_after_act rank) (tables_of self.old)
             (map act_meant (list_of acts))) }
         ensures ranks { OnOk result (length self.new.ranks.items ≡ length self.old.ranks.items) }
     {
         match acts {
             Few::Empty => {}
-            Few::One(a) => self.act(alloc, input, rank, a)?,
+            Few::One(a) => self.act(alloc, rank, a)?,
             Few::Two(a, b) => {
-                self.act(alloc, input, rank, a)?;
-                self.act(alloc, input, rank, b)?;
+                self.act(alloc, rank, a)?;
+                self.act(alloc, rank, b)?;
             }
             Few::Three(a, b, c) => {
-                self.act(alloc, input, rank, a)?;
-                self.act(alloc, input, rank, b)?;
-                self.act(alloc, input, rank, c)?;
+                self.act(alloc, rank, a)?;
+                self.act(alloc, rank, b)?;
+                self.act(alloc, rank, c)?;
             }
         }
         Ok(())

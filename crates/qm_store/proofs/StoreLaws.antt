@@ -2,7 +2,7 @@
 use Rattle.std.proofs.Common.{◌≡◌, ◌≢◌, ℕ, zero, suc, ◌+◌, ◌*◌, ◌<◌, ◌^◌, ◌⊎◌, inl, inr, List, [], ◌∷◌, cond, Contains, sym, ap, subst, ◌∙◌, arith}
 use mathlib.Core.Path.{fun_ext}
 use Rattle.std.proofs.lemmas.Bool.{cases_lt}
-use Rattle.std.proofs.lemmas.Nat.{pow-add, pow_below}
+use Rattle.std.proofs.lemmas.Nat.{pow-add}
 use Rattle.std.specs.Prelude.{unsigned_abs}
 use Rattle.qm_zomega.specs.declared.Zw.{Zw}
 use Rattle.qm_zomega.specs.Numbers.{Number, zero_number}
@@ -59,10 +59,6 @@ all_or_unfit (suc n) g = elim (all_or_unfit n g) [
 
 pub some_unfit : (n : ℕ) (g : ℕ → Number) → (((i : ℕ) → i < n → FitsZw (g i)) → ⊥) → (i : ℕ) × (i < n) × (¬ (FitsZw (g i)))
 some_unfit n g never = elim (all_or_unfit n g) [ inr some ↦ some | inl all ↦ absurd (never all) ]
-
--- a power that fits 32 bits
-pub power_fits : (p : ℕ) → p < 32 → 2 ^ p < 2 ^ 32
-power_fits p h = pow_below p 32 h
 
 -- ---- lists of the same numbers
 same_values : (live : List Wire) (zs ys : List Zw) → ((i : ℕ) → number_at ys i ≡ number_at zs i) → listed_value live ys ≡ listed_value live zs

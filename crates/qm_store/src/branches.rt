@@ -4,18 +4,9 @@ ghost use Rattle.qm_zomega.specs.Numbers.{zero_number};
 ghost use Rattle.qm_zomega.specs.NumberLists.{meant_at};
 ghost use Rattle.qm_denot.specs.Places.{HasPlace, has_place};
 
-use crate::lists::power;
+use qm_denot::bit_at;
 use qm_limits::MOST_CAPACITY;
 use qm_zomega::Numerator;
-
-/// The bit of `k` at a place.
-#[tactic(auto, using(qm_denot::proofs::PlaceLaws::has_place_closed))]
-fn bit_at(place: u32, k: usize) -> bool
-    requires { place < 32 }
-    ensures { result ≡ has_place place k }
-{
-    k / power(place) % 2 == 1
-}
 
 /// Whether some non-zero numerator has this bit at a place.
 pub(crate) fn any_with<Z: Numerator>(numerators: &[Z], place: u32, bit: bool) -> bool

@@ -15,9 +15,8 @@ mod branches;
 mod lists;
 mod numerators;
 
-use lists::power;
 use numerators::Numerators;
-use qm_denot::{Amps, Letter, Overflow, Wire, index_at, place_of};
+use qm_denot::{Amps, Letter, Overflow, Wire, index_at, place_of, power};
 use qm_limits::MOST_CAPACITY;
 use qm_zomega::Zw;
 use std::alloc::{AllocError, Global};
@@ -250,6 +249,10 @@ impl Amps for ScaledAmps {
 
     fn value(&self, ones: &[Wire]) -> Zw {
         self.numerators.number(index_at(&self.live, ones))
+    }
+
+    fn numerator(&self, index: usize) -> Zw {
+        self.numerators.number(index)
     }
 
     ghost sound = { λ s. listed_sound s.capacity s.live.items s.exponent (items_of s.numerators)

@@ -64,12 +64,3 @@ pub(crate) fn widen_list<Z: Slim>(slim: &[Z], wide: &mut Vec<Zw>)
         let _ = wide.push(z);
     }
 }
-
-/// `2^places`.
-#[tactic(auto, using(crate::proofs::StoreLaws::power_fits))]
-pub(crate) fn power(places: u32) -> usize
-    requires { places < 32 }
-    ensures { result ≡ 2 ^ places }
-{
-    1 << places
-}

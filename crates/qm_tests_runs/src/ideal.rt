@@ -1,7 +1,7 @@
 //! Tests of qm_ideal: one circuits that were worked out by hand.
 use crate::fixtures::{qubits_of, ready_of};
 use qm_denot::{Letter, Wire};
-use qm_ideal::{MonoError, mono, rendezvous};
+use qm_ideal::{Draw, DrawnError, MonoError, Stop, mono, mono_with, rendezvous};
 use std::test::Fail;
 
 /// The first four wires of rank 0, and the first one of rank 1.
@@ -217,5 +217,147 @@ fn ranks_that_wait_for_each_other_have_no_circuit(rt: HostRuntime) -> Result<(),
         Some(MonoError::Waits { ranks: 3 })
     );
     assert_eq!(rt; rendezvous(rt.alloc(), &ready)?, false);
+    Ok(())
+}
+
+/// A call on a draw; that for an outcome has the one that is given.
+#[derive(Clone, Copy, PartialEq)]
+enum Call {
+    Takes {
+        letter: Letter,
+    },
+    Gives {
+        rank: u16,
+        wire: Wire,
+        outcome: bool,
+    },
+}
+
+/// A draw that expects these calls, and stops at the call behind them.
+#[derive(Drop)]
+struct Expected {
+    calls: &'static [Call],
+    next: usize,
+    is_as_expected: bool,
+}
+
+impl Expected {
+    /// The next call that is expected.
+    fn call(&mut self) -> Result<Call, Stop> {
+        match self.calls.get(self.next) {
+            Some(call) => {
+                self.next += 1;
+                Ok(*call)
+            }
+            None => Err(Stop::Vanished),
+        }
+    }
+}
+
+impl Draw for Expected {
+    ghost draws = { λ s d. Unit {0} };
+
+    fn letter(&mut self, letter: Letter) -> Result<(), Stop> {
+        if self.call()? != (Call::Takes { letter }) {
+            self.is_as_expected = false;
+        }
+        Ok(())
+    }
+
+    fn outcome(&mut self, rank: u16, wire: Wire) -> Result<bool, Stop> {
+        match self.call()? {
+            Call::Gives {
+                rank: r,
+                wire: w,
+                outcome,
+            } if r == rank && w == wire => Ok(outcome),
+            _ => {
+                self.is_as_expected = false;
+                Ok(false)
+            }
+        }
+    }
+}
+
+/// Two ranks that measure in turn. Their own tapes have other outcomes than those that are drawn.
+const IN_TURN: &str = "qmpi 1 ranks 2 qubits 1 buffer 1 \
+    rank 0 alloc 0 h 0 measure 0 0 when 0 x 0 recvbit 1 1 1 when 1 x 0 measure 0 2 end \
+    rank 1 alloc 0 h 0 measure 0 0 sendbit 0 0 1 end own 0 b01 own 1 b0";
+
+/// The calls for it. The outcome is asked for before its Keep, and gives the bit.
+const CALLS: [Call; 11] = [
+    Call::Takes {
+        letter: Letter::Had { w: FIRST },
+    },
+    Call::Gives {
+        rank: 0,
+        wire: FIRST,
+        outcome: true,
+    },
+    Call::Takes {
+        letter: Letter::Keep { w: FIRST, m: true },
+    },
+    Call::Takes {
+        letter: Letter::Flip { w: FIRST },
+    },
+    Call::Takes {
+        letter: Letter::Had { w: OTHER },
+    },
+    Call::Gives {
+        rank: 1,
+        wire: OTHER,
+        outcome: true,
+    },
+    Call::Takes {
+        letter: Letter::Keep { w: OTHER, m: true },
+    },
+    Call::Takes {
+        letter: Letter::Flip { w: FIRST },
+    },
+    Call::Gives {
+        rank: 0,
+        wire: FIRST,
+        outcome: false,
+    },
+    Call::Takes {
+        letter: Letter::Keep { w: FIRST, m: false },
+    },
+    Call::Takes {
+        letter: Letter::Flip { w: FIRST },
+    },
+];
+
+/// After so many of the calls the next one is stopped, and no other is made.
+#[test]
+fn outcomes_are_asked_for_in_turn(rt: HostRuntime) -> Result<(), Fail> {
+    let alloc = rt.alloc();
+    let ready = ready_of(&rt, alloc, IN_TURN)?;
+    mono(alloc, &ready)?;
+    let mut taken = 0u32;
+    for (n, call) in CALLS.iter().enumerate() {
+        let mut draw = Expected {
+            calls: &CALLS[..n],
+            next: 0,
+            is_as_expected: true,
+        };
+        let end = mono_with(alloc, &ready, &mut draw).err();
+        assert!(rt; draw.is_as_expected && draw.next == n, "at {n}");
+        if n == 10 {
+            assert_eq!(rt; end, None);
+        } else {
+            let at = taken;
+            assert_eq!(rt;
+                end,
+                Some(DrawnError::Stopped {
+                    at,
+                    why: Stop::Vanished
+                }),
+                "at {n}"
+            );
+        }
+        if let Call::Takes { .. } = call {
+            taken = taken.saturating_add(1);
+        }
+    }
     Ok(())
 }

@@ -18,4 +18,6 @@ mod ranks;
 #[cfg(test)]
 mod rows;
 #[cfg(test)]
+mod sample;
+#[cfg(test)]
 mod threads;

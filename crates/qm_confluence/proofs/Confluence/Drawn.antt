@@ -183,7 +183,7 @@ if_keeps n true g wire = gate_keeps n g wire
 if_keeps n false g wire = refl
 
 module _ (p : Programs) (s : IdealState) (r : ℕ) (m : Bool) where
-  step_keeps : (i : Instr) → keeps_from (length s.circuit) (letters_by r i (seen p s.tables r i (m ∷ []))) ≡ map place_of (drawn_by r i m s)
+  pub step_keeps : (i : Instr) → keeps_from (length s.circuit) (letters_by r i (seen p s.tables r i (m ∷ []))) ≡ map place_of (drawn_by r i m s)
   step_keeps (instr.Measure k b) = refl
   step_keeps (instr.Alloc k) = refl
   step_keeps (instr.Free k) = refl
@@ -305,12 +305,12 @@ module _ (p : Programs) (ready : IsReady p) (ranges : IsInRange p) (s : IdealSta
       ∙ ap (λ n. keeps_from 0 s.circuit ++ keeps_from n (letters_by r i v)) (let e : length s.circuit ≡ 0 + length s.circuit = omega arith in e)
       ∙ sym (keeps_append 0 s.circuit (letters_by r i v)) ∙ sym (ap (λ (u : IdealState). keeps_from 0 u.circuit) after_is)
 
-  at_here : (after.tables.parts r).at ≡ (s.tables.parts r).at + 1
+  pub at_here : (after.tables.parts r).at ≡ (s.tables.parts r).at + 1
   at_here =
       ap (λ (u : IdealState). (u.tables.parts r).at) after_is ∙ ap (λ (x : IdealPart). x.at) (part_stepped r (without_own (acts_by r i v)) s.tables)
       ∙ ap (λ k. k + 1) (at_same (s.tables.parts r) (without_own (acts_by r i v)))
 
-  at_there : (k : ℕ) → k ≢ r → (after.tables.parts k).at ≡ (s.tables.parts k).at
+  pub at_there : (k : ℕ) → k ≢ r → (after.tables.parts k).at ≡ (s.tables.parts k).at
   at_there k other =
       ap (λ (u : IdealState). (u.tables.parts k).at) after_is ∙ ap (λ (x : IdealPart). x.at) (part_elsewhere r (without_own (acts_by r i v)) s.tables k other)
 

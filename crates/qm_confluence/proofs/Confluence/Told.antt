@@ -8,7 +8,7 @@ use Rattle.qm_instr.specs.declared.Instr.TheVariants as instr
 use Rattle.qm_instr.specs.Programs.{Programs, rank_of}
 use Rattle.qm_proto.specs.Model.State.{with_at, no_wire}
 use Rattle.qm_proto.specs.Model.Rows.{wire_offered}
-use Rattle.qm_proto.specs.Model.Ideal.{IdealPart, IdealTables, IdealState, IdealRule, IdealRow, Always, Filled, Engaged, Lent, IdealAct, Counts, SlotSet, Puts, Takes, OwnUsed, BitSet, ideal_after_act, ideal_past_instr, ideal_current, ideal_next, ideal_wire_in}
+use Rattle.qm_proto.specs.Model.Ideal.{ideal_row_of, IdealPart, IdealTables, IdealState, IdealRule, IdealRow, Always, Filled, Engaged, Lent, IdealAct, Counts, SlotSet, Puts, Takes, OwnUsed, BitSet, ideal_after_act, ideal_past_instr, ideal_current, ideal_next, ideal_wire_in}
 use Rattle.qm_proto.proofs.Changes.{by_number, with_at-here, with_at-elsewhere}
 use Rattle.qm_confluence.specs.Told.{filled, told, without_own, told_instr, told_next, left_after}
 use Rattle.qm_confluence.proofs.Confluence.ByView.{View, slot_wire, front_read, reads, offered_read, rule_of, letters_by, acts_by, view, step_by, step_is}
@@ -144,12 +144,15 @@ abbrev pub filled_state : (ℕ → List Bool) → IdealState → IdealState
 filled_state left s = record s { tables = filled left s.tables }
 
 module _ (p q : Programs) (same : (r : ℕ) → (rank_of q r).instructions ≡ (rank_of p r).instructions) (s : IdealState) (left : ℕ → List Bool) (r : ℕ) (m : Bool) where
+  pub told_row : (i : Instr) → ideal_row_of p (told s.tables m) r i ≡ step_by r i (seen p s.tables r i (m ∷ []))
+  told_row i = step_is p (told s.tables m) r i ∙ ap (step_by r i) (seen_so p s.tables r i p (λ r. refl) (λ r. m ∷ []))
+
   pub told_is : (i : Instr) → ideal_current p s.tables r ≡ Some i
       → told_next p s r m ≡ (let u : IdealState = record { tables = stepped r (without_own (acts_by r i (seen p s.tables r i (m ∷ [])))) s.tables; circuit = s.circuit ++ letters_by r i (seen p s.tables r i (m ∷ [])) } in u)
   told_is i read =
       ap (told_instr p s r m) read
       ∙ ap (λ (x : IdealRow). let u : IdealState = record { tables = ideal_past_instr (fold (ideal_after_act r) s.tables (without_own x.acts)) r; circuit = s.circuit ++ x.letters } in u)
-      (step_is p (told s.tables m) r i ∙ ap (step_by r i) (seen_so p s.tables r i p (λ r. refl) (λ r. m ∷ [])))
+      (told_row i)
 
   pub next_told : (i : Instr) → ideal_current p s.tables r ≡ Some i → IsTold i (left r) m
       → ideal_next q (filled_state left s) r ≡ filled_state (left_after left r i) (told_next p s r m)

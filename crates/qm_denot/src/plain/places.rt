@@ -4,7 +4,7 @@ ghost use Rattle.qm_denot.specs.Places.{has_place, set_place, insert_place};
 
 /// `2^place`.
 #[tactic(auto, using(crate::proofs::PlaceLaws::power_fits))]
-pub(crate) fn power(place: u32) -> usize
+pub fn power(place: u32) -> usize
     requires { place < 32 }
     ensures value { result ≡ 2 ^ place }
     ensures bound { result < 2 ^ 32 }
@@ -14,7 +14,7 @@ pub(crate) fn power(place: u32) -> usize
 
 /// The bit of `k` at a place.
 #[tactic(auto, using(crate::proofs::PlaceLaws::has_place_closed))]
-pub(crate) fn bit_at(place: u32, k: usize) -> bool
+pub fn bit_at(place: u32, k: usize) -> bool
     requires { place < 32 }
     ensures { result ≡ has_place place k }
 {

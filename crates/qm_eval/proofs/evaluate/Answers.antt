@@ -1,4 +1,4 @@
-use Rattle.std.proofs.Common.{◌≡◌, ◌≤◌, ◌∙◌, List, [], length, refl, sym, ap, subst, add-one, arith}
+use Rattle.std.proofs.Common.{rules, ◌≡◌, ◌≤◌, ◌∙◌, List, [], length, refl, sym, ap, subst, add-one, arith}
 use Rattle.qm_denot.specs.declared.Letter.{Letter}
 use Rattle.qm_denot.specs.Stores.{StandsFor}
 use Rattle.qm_instr.specs.Programs.{IsInRange}
@@ -60,3 +60,6 @@ returns-clause-ok g c =
     let made : MakesLive (wires_in f (length m.ranks)) t (store c.loop-rank.amps) = subst (λ r. MakesLive (wires_in f r) t (store c.loop-rank.amps)) end c.loop-rank.invariant in
     ends_hold c.args.ready.now c.input.ensures.ready ranges m c.requires.circuit t (store c.loop-rank.amps)
     (subst NeverOverflows c.letters.ensures c.in_ok-do_letters.ensures.fits) (subst (StandsFor t) c.letters.ensures c.in_ok-do_letters.ensures.stands) made
+
+pub loop-rank-init : goal.loop-rank-init
+loop-rank-init g c = search rules

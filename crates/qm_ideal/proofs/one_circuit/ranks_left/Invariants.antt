@@ -4,4 +4,4 @@ use Rattle.qm_ideal.specs.Views.{tables_of}
 use Rattle.qm_ideal.proofs.one_circuit.ranks_left.Given as goal
 
 abbrev pub invariant-loop-k : goal.invariant-loop-k
-invariant-loop-k l = (l.left ≡ left_from l.input (tables_of l.input l.tables) (l.ranks - l.k) l.k) × (l.k ≤ l.ranks)
+invariant-loop-k l = (l.left ≡ left_from l.input (tables_of l.tables) (l.ranks - l.k) l.k) × (l.k ≤ l.ranks)

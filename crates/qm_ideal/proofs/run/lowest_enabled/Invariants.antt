@@ -4,4 +4,4 @@ use Rattle.qm_ideal.specs.Views.{tables_of}
 use Rattle.qm_ideal.proofs.run.lowest_enabled.Given as goal
 
 abbrev pub invariant-loop-rank : goal.invariant-loop-rank
-invariant-loop-rank l = (k : ℕ) → k < l.rank → ideal_enabled l.input (tables_of l.input l.tables) k ≡ false
+invariant-loop-rank l = (k : ℕ) → k < l.rank → ideal_enabled l.input (tables_of l.tables) k ≡ false

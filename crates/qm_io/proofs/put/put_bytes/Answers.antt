@@ -1,4 +1,4 @@
-use Rattle.std.proofs.Common.{arith}
+use Rattle.std.proofs.Common.{rules, arith}
 use Rattle.qm_io.proofs.EndLemmas.{Took-more, Took-stop, Puts-stop}
 use Rattle.qm_io.proofs.put.put_bytes.Goals as goal
 
@@ -10,3 +10,6 @@ loop-at-preserved g c = record {
   within = grind arith;
   took = Took-more _ _ _ _ _ _ c.loop-at.invariant.took c.in_ok-at.ensures.ok;
 }
+
+pub loop-at-init : goal.loop-at-init
+loop-at-init g c = search rules

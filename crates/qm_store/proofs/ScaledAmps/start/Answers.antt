@@ -4,7 +4,7 @@ use Rattle.qm_denot.proofs.FreshLaws.{size_at_start, stands_at_start, keeps_at_s
 use Rattle.qm_store.proofs.ScaledAmps.start.Goals as goal
 
 pub one-requires : goal.one-requires
-one-requires c = omega (arith, pow_pos c.args.capacity, c.power.ensures)
+one-requires c = omega (arith, pow_pos c.args.capacity, c.power.ensures.value)
 
 pub returns-clause-stands : goal.returns-clause-stands
 returns-clause-stands c =
@@ -20,6 +20,6 @@ invariant_of-result c =
       few = omega (arith, ap length none);
       live_room = omega (arith, c.in_ok-with_capacity.ensures.exact);
       size = size_at_start c.in_ok-with_capacity.field-0.items true [] _ one.0 none one.1 refl refl;
-      room = omega (arith, c.in_ok-numerators.ensures.room, c.power.ensures);
+      room = omega (arith, c.in_ok-numerators.ensures.room, c.power.ensures.value);
       kept = keeps_at_start c.in_ok-with_capacity.field-0.items true [] _ one.0 none one.1 refl refl;
     }

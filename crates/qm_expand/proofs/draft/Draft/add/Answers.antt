@@ -1,4 +1,4 @@
-use Rattle.std.proofs.Common.{◌≡◌, ◌<◌, ◌∙◌, ap, sym, arith, true}
+use Rattle.std.proofs.Common.{rules, ◌≡◌, ◌<◌, ◌∙◌, ap, sym, arith, true}
 use Rattle.qm_instr.specs.Programs.{instruction_total, rank_of}
 use Rattle.qm_expand.specs.Drafts.{has_operands}
 use Rattle.qm_expand.proofs.DraftLemmas.{made_ok}
@@ -18,3 +18,6 @@ returns-clause-answers c =
     let ok : has_operands (rank_of p c.args.rank).qubits c.args.i ≡ true =
     ap (λ q. has_operands q c.args.i) (sym c.qubits.ensures) ∙ sym c.if-not-has_operands.ensures.value in
     made_ok c.args.line c.args.rank c.args.i p c.push.new.self c.args.self.now.turns ok few c.in-Ok.ensures.ok
+
+pub returns-then-self-ge-MOST_INSTRUCTIONS-clause-answers : goal.returns-then-self-ge-MOST_INSTRUCTIONS-clause-answers
+returns-then-self-ge-MOST_INSTRUCTIONS-clause-answers c = search rules

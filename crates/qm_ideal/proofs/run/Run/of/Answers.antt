@@ -1,33 +1,26 @@
-use Rattle.std.proofs.Common.{◌∙◌}
+use Rattle.std.proofs.Common.{[], sym, ap₂, subst}
+use Rattle.qm_proto.specs.Model.Ideal.{IdealState}
+use Rattle.qm_confluence.proofs.Confluence.Drawn.{IsDrawn, is_drawn_start}
+use Rattle.qm_ideal.specs.Drawings.{drawing}
 use Rattle.qm_ideal.specs.Views.{state_of}
-use Rattle.qm_ideal.proofs.OneRunLemmas.{way_next, way_end, left_falls}
-use Rattle.qm_ideal.proofs.SmallActs.{small_step, at_small, made_small}
+use Rattle.qm_ideal.proofs.DrawnLemmas.{step_falls}
 use Rattle.qm_ideal.proofs.run.Run.of.Goals as goal
 
-pub step-requires-clause-made : goal.step-requires-clause-made
-step-requires-clause-made c =
-    let low = c.in-Some.ensures in
-    made_small c.args.input.now c.requires.in_range (state_of c.args.input.now c.loop-rank.run) c.in-Some.rank low.known c.loop-rank.invariant.0 low
-
-pub step-requires-clause-at : goal.step-requires-clause-at
-step-requires-clause-at c =
-    let low = c.in-Some.ensures in
-    at_small c.args.input.now c.requires.in_range (state_of c.args.input.now c.loop-rank.run) c.in-Some.rank low.known low
-
-pub step-requires-clause-small : goal.step-requires-clause-small
-step-requires-clause-small c =
-    small_step c.args.input.now c.requires.in_range (state_of c.args.input.now c.loop-rank.run) c.in-Some.rank c.in-Some.ensures.known
-
 pub loop-rank-smaller : goal.loop-rank-smaller
-loop-rank-smaller c =
-    left_falls c.args.input.now (state_of c.args.input.now c.loop-rank.run) (state_of c.args.input.now c.step.new.self) c.in-Some.rank c.in-Some.ensures c.in_ok-step.ensures.did
+loop-rank-smaller g c =
+    let way = c.loop-rank.invariant.0 in
+    step_falls c.args.input.now (state_of c.loop-rank.run) c.in-Some.rank
+    (record { ready = c.requires.ready; in_range = c.requires.in_range; lowest = c.in-Some.ensures })
+    way.outcomes way.drawn _ c.in_ok-step.ensures.did
 
-pub loop-rank-preserved : goal.loop-rank-preserved
-loop-rank-preserved c = (
-  way_next c.args.input.now (state_of c.args.input.now c.loop-rank.run) (state_of c.args.input.now c.step.new.self) c.in-Some.rank c.loop-rank.invariant.0 c.in-Some.ensures c.in_ok-step.ensures.did,
-  c.in_ok-step.ensures.ranks ∙ c.loop-rank.invariant.1,
+pub loop-rank-init : goal.loop-rank-init
+loop-rank-init g c = (
+  record {
+    outcomes = [];
+    drawn = subst (λ z. IsDrawn c.args.input.now z [])
+        (sym (ap₂ (λ t ls. let u : IdealState = record { tables = t; circuit = ls } in u) c.in_ok-start.ensures.start c.new.ensures.items))
+        (is_drawn_start c.args.input.now);
+    fed = subst (λ ls. g.F.Feed.feeds c.args.feed.now c.args.input.now (drawing ls [])) (sym c.new.ensures.items) c.requires.fed;
+  },
+  c.in_ok-start.ensures.ranks,
 )
-
-pub returns-clause-end : goal.returns-clause-end
-returns-clause-end c =
-    way_end c.args.input.now (state_of c.args.input.now c.loop-rank.run) c.loop-rank.invariant.0 c.in_default.ensures

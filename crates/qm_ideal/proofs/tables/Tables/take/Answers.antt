@@ -7,6 +7,6 @@ use Rattle.qm_ideal.proofs.tables.Tables.take.Goals as goal
 
 pub returns-clause-did : goal.returns-clause-did
 returns-clause-did c =
-    let t = tables_of c.args.input.now c.args.self.now in
+    let t = tables_of c.args.self.now in
     ap (λ ls. let u : IdealTables = record t { lanes = ls } in u)
     (take_meant (lanes_of c.args.self.now.lanes) (lanes_of c.take.new.self) c.args.lane c.take.ensures)

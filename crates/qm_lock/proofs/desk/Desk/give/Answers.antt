@@ -45,3 +45,6 @@ fetch_add-requires-2 g c = (
         c.requires.opening (rw w.if-added.false at c.requires.turns)
   ],
 )
+
+pub returns-clause-count : goal.returns-clause-count
+returns-clause-count g c = search rules

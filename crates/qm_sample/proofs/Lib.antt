@@ -1,0 +1,4 @@
+mod IndexSums
+mod SurdTotals
+mod ShareLaws
+mod Passes
